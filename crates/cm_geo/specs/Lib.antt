@@ -1,0 +1,5 @@
+pub mod Hash
+pub mod Layout
+pub mod Limits
+pub mod Geometry
+pub mod Need

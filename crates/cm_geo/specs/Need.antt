@@ -1,0 +1,18 @@
+-- How much room an entry takes (own).
+use Rattle.std.specs.Prelude.{ℕ, ◌+◌, ◌-◌, ◌/◌, ◌≤◌}
+use Rattle.cm_geo.specs.declared.geo.Geo.{Geo}
+
+-- so many parts of this size hold it: the quotient, rounded up
+abbrev pub parts_for : ℕ → ℕ → ℕ
+parts_for size whole = (whole + size - 1) / size
+
+-- the chunks of an entry: two words, then the words of the key and of the value, 8 bytes a word
+abbrev pub need : Geo → ℕ → ℕ → ℕ
+need geo key_len value_len = parts_for geo.chunk_words (2 + parts_for 8 key_len + parts_for 8 value_len)
+
+-- a key and a value of these lengths may be stored
+pub record Fits (geo : Geo) (key_len value_len : ℕ) : Type 0 where
+  pub key_some : 1 ≤ key_len
+  pub key_short : key_len ≤ 256
+  pub value_short : value_len ≤ 4096
+  pub few_chunks : need geo key_len value_len ≤ 64

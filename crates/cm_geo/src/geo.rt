@@ -1,0 +1,134 @@
+//! The five numbers of a map, within their limits.
+
+ghost use Rattle.std.specs.Prelude.{◌≡◌, ◌+◌, ◌*◌, ◌/◌, ◌%◌, ◌^◌, ◌<◌, ◌≤◌, ◌↔◌, IsTrue, MatchResult, Some, None};
+ghost use Rattle.cm_geo.specs.Limits.{is_segments, is_tiers, is_chunks, is_chunk_words};
+ghost use Rattle.cm_geo.specs.Layout.{segment_words};
+
+use crate::refused::GeoRefused;
+
+/// The geometry of a map.
+///
+/// It has 1 to 64 segments and 64 to 4096 chunks in a tier, both powers of two, 1 to 8 tiers in a
+/// segment, 4, 8 or 16 words of 64 bits in a chunk, and at most 2^22 words in all. Besides the first
+/// tier of each segment, the map may chain `extra` tiers over all its segments.
+#[derive(Clone, Copy)]
+pub struct Geo {
+    pub segments: u32,
+    pub tiers: u32,
+    pub chunks: u32,
+    pub chunk_words: u32,
+    pub extra: u32,
+    pub ghost segments_fit: { IsTrue (is_segments segments) },
+    pub ghost tiers_fit: { IsTrue (is_tiers tiers) },
+    pub ghost chunks_fit: { IsTrue (is_chunks chunks) },
+    pub ghost chunk_words_fit: { IsTrue (is_chunk_words chunk_words) },
+    pub ghost extra_fit: { extra + segments ≤ segments * tiers },
+    pub ghost words_fit: { segments * segment_words tiers chunks chunk_words ≤ 2 ^ 22 },
+}
+
+impl Geo {
+    ghost use Rattle.cm_geo.specs.Geometry.{refusal, IsGeoOf};
+    ghost use Rattle.cm_geo.specs.Hash.{fingerprint_in, home_in, segment_in};
+    ghost use Rattle.cm_geo.specs.Need.{Fits, need as need_in};
+
+    /// The geometry of these numbers, or the first of them that is outside its limit.
+    pub fn new(
+        segments: u32,
+        tiers: u32,
+        chunks: u32,
+        chunk_words: u32,
+        extra: u32,
+    ) -> Result<Geo, GeoRefused>
+        ensures { MatchResult result
+            (λ geo. (refusal segments tiers chunks chunk_words extra ≡ None) × IsGeoOf geo segments tiers chunks chunk_words extra)
+            (λ refused. refusal segments tiers chunks chunk_words extra ≡ Some refused) }
+    {
+        if !matches!(segments, 1 | 2 | 4 | 8 | 16 | 32 | 64) {
+            return Err(GeoRefused::Segments);
+        }
+        if tiers < 1 || tiers > 8 {
+            return Err(GeoRefused::Tiers);
+        }
+        if !matches!(chunks, 64 | 128 | 256 | 512 | 1024 | 2048 | 4096) {
+            return Err(GeoRefused::Chunks);
+        }
+        if !matches!(chunk_words, 4 | 8 | 16) {
+            return Err(GeoRefused::ChunkWords);
+        }
+        if extra > segments * (tiers - 1) {
+            return Err(GeoRefused::Allowance);
+        }
+        let tier_words = 4 + chunks / 64 + 2 * chunks + chunks * chunk_words;
+        if segments * (4 + tiers * tier_words) > 1 << 22 {
+            return Err(GeoRefused::TooManyWords);
+        }
+        Ok(Geo {
+            segments,
+            tiers,
+            chunks,
+            chunk_words,
+            extra,
+        })
+    }
+
+    /// How many segments the keys are divided among.
+    pub fn segments(&self) -> u32
+        ensures { result ≡ self.now.segments }
+    {
+        self.segments
+    }
+
+    /// How many tiers a segment may chain.
+    pub fn tiers(&self) -> u32
+        ensures { result ≡ self.now.tiers }
+    {
+        self.tiers
+    }
+
+    /// How many chunks a tier has.
+    pub fn chunks(&self) -> u32
+        ensures { result ≡ self.now.chunks }
+    {
+        self.chunks
+    }
+
+    /// How many words a chunk has.
+    pub fn chunk_words(&self) -> u32
+        ensures { result ≡ self.now.chunk_words }
+    {
+        self.chunk_words
+    }
+
+    /// How many tiers may be chained beyond the first one of each segment, over the whole map.
+    pub fn extra(&self) -> u32
+        ensures { result ≡ self.now.extra }
+    {
+        self.extra
+    }
+
+    /// The segment of a key with this hash.
+    pub fn segment_of(&self, hash: u64) -> u32
+        ensures value { result ≡ segment_in self.now hash }
+        ensures in_range { result < self.now.segments }
+    {
+        (hash % u64::from(self.segments)) as u32
+    }
+
+    /// The chunks of an entry with a key and a value of these lengths in bytes.
+    pub fn need(&self, key_len: u32, value_len: u32) -> u32
+        requires key_len { key_len ≤ 256 }
+        requires value_len { value_len ≤ 4096 }
+        ensures value { result ≡ need_in self.now key_len value_len }
+    {
+        let words = 2 + key_len.div_ceil(8) + value_len.div_ceil(8);
+        words.div_ceil(self.chunk_words)
+    }
+
+    /// Whether an entry with a key and a value of these lengths in bytes may be stored: the key has 1 to
+    /// 256 bytes, the value at most 4096, and together they take at most 64 chunks.
+    pub fn fits(&self, key_len: u32, value_len: u32) -> bool
+        ensures { IsTrue result ↔ Fits self.now key_len value_len }
+    {
+        1 <= key_len && key_len <= 256 && value_len <= 4096 && self.need(key_len, value_len) <= 64
+    }
+}

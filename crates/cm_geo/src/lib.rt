@@ -1,0 +1,13 @@
+//! The geometry of a map: how many segments, tiers, chunks and words it has, and how a key's hash is split.
+#![tactic(auto)]
+
+mod fnv;
+mod geo;
+mod refused;
+
+#[cfg(test)]
+mod tests;
+
+pub use fnv::{hash, hash_byte};
+pub use geo::Geo;
+pub use refused::GeoRefused;
