@@ -1,5 +1,5 @@
 -- Which five numbers are a geometry.
-use Rattle.std.specs.Prelude.{◌≡◌, ℕ, ◌+◌, ◌-◌, ◌*◌, ◌^◌, not, nat_lt, if◌then◌else◌, Option, Some, None}
+use Rattle.std.specs.Prelude.{◌≡◌, ℕ, ◌-◌, ◌*◌, ◌^◌, not, nat_lt, if◌then◌else◌, Option, Some, None}
 use Rattle.cm_geo.specs.declared.geo.Geo.{Geo}
 use Rattle.cm_geo.specs.declared.refused.GeoRefused.{GeoRefused}
 use Rattle.cm_geo.specs.declared.refused.GeoRefused.TheVariants.{Segments, Tiers, Chunks, ChunkWords, Allowance, TooManyWords}

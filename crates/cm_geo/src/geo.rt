@@ -2,7 +2,7 @@
 
 ghost use Rattle.std.specs.Prelude.{◌≡◌, ◌+◌, ◌*◌, ◌/◌, ◌%◌, ◌^◌, ◌<◌, ◌≤◌, ◌↔◌, IsTrue, MatchResult, Some, None};
 ghost use Rattle.cm_geo.specs.Limits.{is_segments, is_tiers, is_chunks, is_chunk_words};
-ghost use Rattle.cm_geo.specs.Layout.{segment_words};
+ghost use Rattle.cm_geo.specs.Layout.{tier_words, segment_words};
 
 use crate::refused::GeoRefused;
 
@@ -26,6 +26,54 @@ pub struct Geo {
     pub ghost words_fit: { segments * segment_words tiers chunks chunk_words ≤ 2 ^ 22 },
 }
 
+// The words of the largest map: 32 MiB of them.
+const MOST_WORDS: u32 = 1 << 22;
+
+fn is_segments(segments: u32) -> bool
+    ensures value { result ≡ is_segments segments }
+    ensures limit { IsTrue (is_segments segments) → segments ≤ 64 }
+{
+    matches!(segments, 1 | 2 | 4 | 8 | 16 | 32 | 64)
+}
+
+fn is_tiers(tiers: u32) -> bool
+    ensures { result ≡ is_tiers tiers }
+{
+    1 <= tiers && tiers <= 8
+}
+
+fn is_chunks(chunks: u32) -> bool
+    ensures { result ≡ is_chunks chunks }
+{
+    matches!(chunks, 64 | 128 | 256 | 512 | 1024 | 2048 | 4096)
+}
+
+fn is_chunk_words(chunk_words: u32) -> bool
+    ensures { result ≡ is_chunk_words chunk_words }
+{
+    matches!(chunk_words, 4 | 8 | 16)
+}
+
+// At the largest numbers a tier has 73,796 words and a segment 590,372, so 64 segments fit a `u32`.
+fn tier_words(chunks: u32, chunk_words: u32) -> u32
+    requires chunks { chunks ≤ 4096 }
+    requires chunk_words { chunk_words ≤ 16 }
+    ensures value { result ≡ tier_words chunks chunk_words }
+    ensures limit { result ≤ 73796 }
+{
+    4 + chunks / 64 + 2 * chunks + chunks * chunk_words
+}
+
+fn segment_words(tiers: u32, chunks: u32, chunk_words: u32) -> u32
+    requires tiers { tiers ≤ 8 }
+    requires chunks { chunks ≤ 4096 }
+    requires chunk_words { chunk_words ≤ 16 }
+    ensures value { result ≡ segment_words tiers chunks chunk_words }
+    ensures limit { result ≤ 590372 }
+{
+    4 + tiers * tier_words(chunks, chunk_words)
+}
+
 impl Geo {
     ghost use Rattle.cm_geo.specs.Geometry.{refusal, IsGeoOf};
     ghost use Rattle.cm_geo.specs.Hash.{fingerprint_in, home_in, segment_in};
@@ -43,23 +91,22 @@ impl Geo {
             (λ geo. (refusal segments tiers chunks chunk_words extra ≡ None) × IsGeoOf geo segments tiers chunks chunk_words extra)
             (λ refused. refusal segments tiers chunks chunk_words extra ≡ Some refused) }
     {
-        if !matches!(segments, 1 | 2 | 4 | 8 | 16 | 32 | 64) {
+        if !is_segments(segments) {
             return Err(GeoRefused::Segments);
         }
-        if tiers < 1 || tiers > 8 {
+        if !is_tiers(tiers) {
             return Err(GeoRefused::Tiers);
         }
-        if !matches!(chunks, 64 | 128 | 256 | 512 | 1024 | 2048 | 4096) {
+        if !is_chunks(chunks) {
             return Err(GeoRefused::Chunks);
         }
-        if !matches!(chunk_words, 4 | 8 | 16) {
+        if !is_chunk_words(chunk_words) {
             return Err(GeoRefused::ChunkWords);
         }
         if extra > segments * (tiers - 1) {
             return Err(GeoRefused::Allowance);
         }
-        let tier_words = 4 + chunks / 64 + 2 * chunks + chunks * chunk_words;
-        if segments * (4 + tiers * tier_words) > 1 << 22 {
+        if segments * segment_words(tiers, chunks, chunk_words) > MOST_WORDS {
             return Err(GeoRefused::TooManyWords);
         }
         Ok(Geo {

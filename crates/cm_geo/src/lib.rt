@@ -4,7 +4,6 @@
 mod fnv;
 mod geo;
 mod refused;
-
 #[cfg(test)]
 mod tests;
 
