@@ -1,0 +1,6 @@
+pub mod Limits
+pub mod States
+pub mod Rooms
+pub mod Changes
+pub mod Steps
+pub mod History

@@ -1,0 +1,153 @@
+-- One step of the bounded map: the reply to an operation, and the state after it. It is after Chronicle Map in outline for get, put,
+-- put-if-absent, replace, replace-if, remove and remove-if, and own for count, list, sweep, the replies and the placement.
+use Rattle.std.specs.Prelude.{ℕ, ◌≡◌, ◌^◌, ◌==◌, ◌&&◌, not, Bool, true, false, List, [], ◌∷◌, length, Contains, Option, Some, None, if◌then◌else◌, is_some, is_none}
+use Rattle.std.specs.List.{list_any, starts_with}
+use Rattle.std.specs.Prelude.{nat_eq}
+use Rattle.std.specs.Str.{bytes_eq}
+use Rattle.cm_geo.specs.declared.geo.Geo.{Geo}
+use Rattle.cm_geo.specs.Need.{need}
+use Rattle.cm_plain.specs.declared.op.Op.{Op}
+use Rattle.cm_plain.specs.declared.op.Op.TheVariants.{Put, Get, PutIfAbsent, Replace, ReplaceIf, Remove, RemoveIf, Count, List as ListAll, Sweep}
+use Rattle.cm_plain.specs.declared.plan.PlanKind.{PlanKind}
+use Rattle.cm_plain.specs.declared.plan.PlanKind.TheVariants as kind
+use Rattle.cm_plain.specs.declared.reply.Pair.{Pair}
+use Rattle.cm_plain.specs.declared.reply.Reply.{Reply}
+use Rattle.cm_plain.specs.declared.reply.Reply.TheVariants as reply
+use Rattle.cm_plain.specs.declared.state.Placed.{Placed}
+use Rattle.cm_plain.specs.declared.state.State.{State}
+use Rattle.cm_plain.specs.States.{IsState, Lists, found, value_of}
+use Rattle.cm_plain.specs.Rooms.{Room, in_place, elsewhere, new_tier, nowhere, room_for}
+use Rattle.cm_plain.specs.Changes.{Change, planned, placed_value, after}
+
+-- the last number of changes that a segment counts to
+abbrev pub last_number : ℕ
+last_number = 2 ^ 62
+
+-- a key's value is there, and is this one
+abbrev pub is_value : Option (List ℕ) → List ℕ → Bool
+is_value None expected = false
+is_value (Some value) expected = bytes_eq value expected
+
+-- a key begins with the prefix
+abbrev pub has_prefix : List ℕ → List ℕ → Bool
+has_prefix prefix key = starts_with nat_eq key prefix
+
+-- whether an operation's condition for a change is met
+abbrev pub would_change : Op → State → Bool
+would_change (Put key value) state = true
+would_change (Get key) state = false
+would_change (PutIfAbsent key value) state = is_none (value_of key state)
+would_change (Replace key value) state = is_some (value_of key state)
+would_change (ReplaceIf key expected value) state = is_value (value_of key state) expected
+would_change (Remove key) state = is_some (value_of key state)
+would_change (RemoveIf key expected) state = is_value (value_of key state) expected
+would_change (Count segment) state = false
+would_change (ListAll segment) state = false
+would_change (Sweep segment prefix) state = list_any (λ entry. has_prefix prefix entry.key) state.entries
+
+-- the answers from a key's value, or from its want
+abbrev pub got : Option (List ℕ) → Reply
+got None = reply.Missing
+got (Some value) = reply.Value value
+
+abbrev pub kept : Option (List ℕ) → Reply
+kept None = reply.Missing
+kept (Some value) = reply.Kept value
+
+abbrev pub unmet : Option (List ℕ) → Reply
+unmet None = reply.Missing
+unmet (Some value) = reply.Differs
+
+-- the answer where an operation's condition for a change isn't met
+abbrev pub AnswersUnchanged : Op → State → Reply → Type 0
+AnswersUnchanged (Put key value) state answer = ⊥
+AnswersUnchanged (Get key) state answer = answer ≡ got (value_of key state)
+AnswersUnchanged (PutIfAbsent key value) state answer = answer ≡ kept (value_of key state)
+AnswersUnchanged (Replace key value) state answer = answer ≡ reply.Missing
+AnswersUnchanged (ReplaceIf key expected value) state answer = answer ≡ unmet (value_of key state)
+AnswersUnchanged (Remove key) state answer = answer ≡ reply.Missing
+AnswersUnchanged (RemoveIf key expected) state answer = answer ≡ unmet (value_of key state)
+AnswersUnchanged (Count segment) state answer = answer ≡ reply.Count (length state.entries)
+AnswersUnchanged (ListAll segment) state answer = (pairs : List Pair) × Lists state pairs × (answer ≡ reply.Pairs pairs)
+AnswersUnchanged (Sweep segment prefix) state answer = answer ≡ reply.SweptAll
+
+-- the key that an operation changes; a sweep takes any one key with its prefix
+abbrev pub ChangesKey : Op → State → List ℕ → Type 0
+ChangesKey (Put key value) state changed = changed ≡ key
+ChangesKey (Get key) state changed = ⊥
+ChangesKey (PutIfAbsent key value) state changed = changed ≡ key
+ChangesKey (Replace key value) state changed = changed ≡ key
+ChangesKey (ReplaceIf key expected value) state changed = changed ≡ key
+ChangesKey (Remove key) state changed = changed ≡ key
+ChangesKey (RemoveIf key expected) state changed = changed ≡ key
+ChangesKey (Count segment) state changed = ⊥
+ChangesKey (ListAll segment) state changed = ⊥
+ChangesKey (Sweep segment prefix) state changed = (has_prefix prefix changed ≡ true) × (is_some (found changed state) ≡ true)
+
+-- the plan of a change that an operation makes to a state: what it leads to is a state again
+pub record Plans (geo : Geo) (segment : ℕ) (state : State) (op : Op) (change : Change) : Type 0 where
+  pub met : would_change op state ≡ true
+  pub key : ChangesKey op state change.key
+  pub change_is : change ≡ planned geo state op change.key
+  pub leads : IsState geo segment (after geo change state)
+
+-- the reply to a change
+abbrev pub reply_of : PlanKind → Op → List ℕ → Reply
+reply_of kind.Remove (Sweep segment prefix) key = reply.Swept key
+reply_of kind.Remove op key = reply.Removed
+reply_of kind.Fresh op key = reply.New
+reply_of kind.InPlace op key = reply.Replaced
+reply_of kind.Relocate op key = reply.Replaced
+
+-- the room that an operation needs, if it places a value
+abbrev pub room_wanted : Geo → State → Op → Room
+room_wanted geo state (Put key value) = room_for geo state key (need geo (length key) (length value))
+room_wanted geo state (PutIfAbsent key value) = room_for geo state key (need geo (length key) (length value))
+room_wanted geo state (Replace key value) = room_for geo state key (need geo (length key) (length value))
+room_wanted geo state (ReplaceIf key expected value) = room_for geo state key (need geo (length key) (length value))
+room_wanted geo state _ = in_place
+
+abbrev pub is_nowhere : Room → Bool
+is_nowhere nowhere = true
+is_nowhere _ = false
+
+abbrev pub is_new_tier : Room → Bool
+is_new_tier (new_tier place) = true
+is_new_tier _ = false
+
+-- what is done with an operation
+pub data Course : Type 0 where
+  stays : Course
+  is_full : Course
+  is_worn : Course
+  is_spent : Course
+  goes : Course
+
+-- the first of these that applies: the condition isn't met; no room in a chain that may not grow; no number left; a new tier without the grant
+abbrev pub course : Geo → State → ℕ → Bool → Op → Course
+course geo state number grant op =
+    if not (would_change op state) then stays
+    else (if is_nowhere (room_wanted geo state op) then is_full
+    else (if number == last_number then is_worn
+    else (if is_new_tier (room_wanted geo state op) && not grant then is_spent
+    else goes)))
+
+abbrev pub StepBy : Course → Geo → ℕ → State → Op → State → Reply → Type 0
+StepBy stays geo segment state op later answer = (later ≡ state) × AnswersUnchanged op state answer
+StepBy is_full geo segment state op later answer = (later ≡ state) × (answer ≡ reply.FullChain)
+StepBy is_worn geo segment state op later answer = (later ≡ state) × (answer ≡ reply.Worn)
+StepBy is_spent geo segment state op later answer = (later ≡ state) × (answer ≡ reply.FullSpent)
+StepBy goes geo segment state op later answer =
+    (change : Change) × Plans geo segment state op change × (later ≡ after geo change state) × (answer ≡ reply_of change.kind op change.key)
+
+-- an operation leads from a state after so many changes, with or without the grant of a further tier, to a state and a reply
+abbrev pub Step : Geo → ℕ → State → ℕ → Bool → Op → State → Reply → Type 0
+Step geo segment state number grant op later answer = StepBy (course geo state number grant op) geo segment state op later answer
+
+-- the replies to a change
+abbrev pub is_change : Reply → Bool
+is_change reply.New = true
+is_change reply.Replaced = true
+is_change reply.Removed = true
+is_change (reply.Swept key) = true
+is_change _ = false

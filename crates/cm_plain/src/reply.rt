@@ -1,0 +1,77 @@
+//! What a segment answers.
+
+use crate::bytes::Bytes;
+use std::marker::Model;
+
+/// A key with its value.
+#[derive(Drop, Debug)]
+pub struct Pair {
+    pub key: Bytes,
+    pub value: Bytes,
+}
+
+/// Pairs in a row. Contracts see the list of them.
+#[derive(Drop, Debug)]
+pub struct PairList {
+    pairs: Vec<Pair>,
+}
+
+impl Model for PairList {
+    ghost use Rattle.std.specs.Prelude.{List};
+    ghost use Rattle.cm_plain.specs.declared.reply.Pair.{Pair};
+
+    ghost Value = { List Pair };
+
+    ghost view = { λ l. l.pairs.items };
+}
+
+impl PairList {
+    ghost use Rattle.std.specs.Prelude.{◌≡◌, ◌<◌, ◌≤◌, ◌^◌, length, slice_get, Some};
+
+    /// The list of a `Vec`'s pairs, of which there are fewer than 2^32. Takes no memory.
+    pub fn from_vec(pairs: Vec<Pair>) -> PairList
+        ensures { result ≡ pairs.items }
+    {
+        PairList { pairs }
+    }
+
+    /// The pairs.
+    pub fn as_slice(&self) -> &[Pair]
+        ensures { result.now ≡ self.now }
+    {
+        self.pairs.as_slice()
+    }
+}
+
+/// An answer.
+#[derive(Drop, Debug)]
+pub enum Reply {
+    /// The key was not there, and has the value now.
+    New,
+    /// The key was there, and has the new value now.
+    Replaced,
+    /// The key is there already, with this value.
+    Kept(Bytes),
+    /// The key isn't there.
+    Missing,
+    /// The key's value isn't the expected one.
+    Differs,
+    /// The key was there, and is gone.
+    Removed,
+    /// The key's value.
+    Value(Bytes),
+    /// No tier has room, and the chain has as many tiers as it may have.
+    FullChain,
+    /// No tier has room, and no further tier may be chained.
+    FullSpent,
+    /// The segment took as many changes as it can count.
+    Worn,
+    /// The number of entries.
+    Count(u32),
+    /// All pairs, in byte order of the keys.
+    Pairs(PairList),
+    /// A key with the prefix was there, and is gone.
+    Swept(Bytes),
+    /// No key has the prefix.
+    SweptAll,
+}
