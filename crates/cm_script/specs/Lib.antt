@@ -1,0 +1,5 @@
+pub mod Numbers
+pub mod Rows
+pub mod Scripts
+pub mod Reports
+pub mod Explained

@@ -1,0 +1,12 @@
+//! Scripts and reports as CSV: the lines of a script's bytes, and the text of a report.
+#![tactic(auto)]
+
+mod line;
+mod report;
+mod stop;
+mod verb;
+
+pub use line::{Line, Script};
+pub use report::Report;
+pub use stop::{LineCause, ScriptStop};
+pub use verb::Verb;
