@@ -1,0 +1,5 @@
+pub mod Causes
+pub mod Told
+pub mod Words
+pub mod Statuses
+pub mod Served

@@ -1,0 +1,37 @@
+//! How a call of the program ends.
+
+ghost use Rattle.std.specs.Prelude.{◌≡◌};
+ghost use Rattle.chronmap.specs.Statuses.{code_of};
+
+/// How a call of the program ended.
+#[derive(Clone, Copy, Debug, PartialEq, Eq)]
+pub enum Status {
+    /// The command was done, its input read to the end, its output written whole.
+    Ok,
+    /// No memory was left.
+    NoMemory,
+    /// The words are none that the program takes.
+    Usage,
+    /// The input is no script.
+    Script,
+    /// The source failed.
+    ReadFault,
+    /// The sink failed.
+    WriteFault,
+}
+
+impl Status {
+    /// The number that the program ends with.
+    pub fn code(self) -> u8
+        ensures { result ≡ code_of self }
+    {
+        match self {
+            Status::Ok => 0,
+            Status::NoMemory => 1,
+            Status::Usage => 2,
+            Status::Script => 3,
+            Status::ReadFault => 4,
+            Status::WriteFault => 5,
+        }
+    }
+}
