@@ -55,7 +55,7 @@ fn is_chunk_words(chunk_words: u32) -> bool
 }
 
 // At the largest numbers a tier has 73,796 words and a segment 590,372, so 64 segments fit a `u32`.
-fn tier_words(chunks: u32, chunk_words: u32) -> u32
+pub(crate) fn tier_words(chunks: u32, chunk_words: u32) -> u32
     requires chunks { chunks ≤ 4096 }
     requires chunk_words { chunk_words ≤ 16 }
     ensures value { result ≡ tier_words chunks chunk_words }
@@ -64,7 +64,7 @@ fn tier_words(chunks: u32, chunk_words: u32) -> u32
     4 + chunks / 64 + 2 * chunks + chunks * chunk_words
 }
 
-fn segment_words(tiers: u32, chunks: u32, chunk_words: u32) -> u32
+pub(crate) fn segment_words(tiers: u32, chunks: u32, chunk_words: u32) -> u32
     requires tiers { tiers ≤ 8 }
     requires chunks { chunks ≤ 4096 }
     requires chunk_words { chunk_words ≤ 16 }
@@ -159,6 +159,24 @@ impl Geo {
         ensures in_range { result < self.now.segments }
     {
         (hash % u64::from(self.segments)) as u32
+    }
+
+    /// The bits of this hash that a slot keeps: the 32 lowest of those that do not choose the segment.
+    pub fn fingerprint_of(&self, hash: u64) -> u32
+        ensures { result ≡ fingerprint_in self.now hash }
+    {
+        let rest = hash / u64::from(self.segments);
+        (rest & u64::from(u32::MAX)) as u32
+    }
+
+    /// The slot of a tier at which the search for this fingerprint begins.
+    #[tactic(auto, using(crate::proofs::Ranges::mask_of_chunks))]
+    pub fn home_of(&self, fingerprint: u32) -> u32
+        ensures value { result ≡ home_in self.now fingerprint }
+        ensures in_range { result < 2 * self.now.chunks }
+    {
+        // A tier's slots are a power of two, so the mask takes the remainder without a division.
+        fingerprint & (2 * self.chunks - 1)
     }
 
     /// The chunks of an entry with a key and a value of these lengths in bytes.
