@@ -1,0 +1,5 @@
+pub mod Ranges
+pub mod Each
+pub mod Apart
+pub mod Chains
+pub mod Placing

@@ -9,10 +9,13 @@ use Rattle.cm_plain.specs.declared.op.Op.TheVariants.{Put, Get, PutIfAbsent, Rep
 use Rattle.cm_plain.specs.declared.plan.Run.{Run}
 use Rattle.cm_plain.specs.declared.plan.PlanKind.{PlanKind}
 use Rattle.cm_plain.specs.declared.plan.PlanKind.TheVariants as kind
-use Rattle.cm_plain.specs.declared.state.Placed.{Placed}
-use Rattle.cm_plain.specs.declared.state.State.{State}
+use Rattle.cm_plain.specs.declared.placed.Placed.{Placed}
+use Rattle.cm_plain.specs.States.{State}
 use Rattle.cm_plain.specs.States.{chunks_of, found, run_start}
-use Rattle.cm_plain.specs.Rooms.{Room, in_place, elsewhere, new_tier, nowhere, room_for}
+use Rattle.cm_plain.specs.declared.room.Room.{Room}
+use Rattle.cm_plain.specs.declared.room.Room.TheVariants.{InPlace}
+use Rattle.cm_plain.specs.declared.room.Spot.{Spot}
+use Rattle.cm_plain.specs.Rooms.{is_new_tier, room_for, spot_in}
 
 -- a change of one key: the operation that makes it, the key, the new value (none: no bytes), the run that the key's entry leaves, the run
 -- that its new entry takes, and whether the new run's tier is linked by it
@@ -37,42 +40,43 @@ placed_value _ = None
 abbrev pub run_of : Geo → Placed → Run
 run_of geo entry = record { place = entry.place; chunk = entry.chunk; chunks = chunks_of geo entry }
 
--- a run of so many chunks where a value goes
-abbrev pub run_in : Room → Option Run → ℕ → Option Run
-run_in in_place old chunks = option_map (λ run. record { place = run.place; chunk = run.chunk; chunks = chunks }) old
-run_in (elsewhere spot) old chunks = Some (record { place = spot.place; chunk = spot.chunk; chunks = chunks })
-run_in (new_tier place) old chunks = Some (record { place = place; chunk = 0; chunks = chunks })
-run_in nowhere old chunks = None
+-- so many chunks from a chunk on
+abbrev pub run_at : ℕ → Spot → Run
+run_at chunks spot = record { place = spot.place; chunk = spot.chunk; chunks = chunks }
 
-abbrev pub kind_in : Room → Option Run → PlanKind
+-- how a room places an entry, beside the key's old one
+abbrev pub kind_in : Room → Option Placed → PlanKind
 kind_in room None = kind.Fresh
-kind_in in_place (Some old) = kind.InPlace
+kind_in InPlace (Some old) = kind.InPlace
 kind_in room (Some old) = kind.Relocate
 
-abbrev pub links_in : Room → Bool
-links_in (new_tier place) = true
-links_in _ = false
-
 -- the change that places a value for a key, and the one that takes a key's entry away
-abbrev pub placing : Op → List ℕ → List ℕ → Option Run → Room → ℕ → Change
-placing op key value old room chunks = record {
+abbrev pub placing : Geo → Op → List ℕ → List ℕ → Option Placed → Room → ℕ → Change
+placing geo op key value old room chunks = record {
   op = op;
   kind = kind_in room old;
   key = key;
   value = value;
-  old_run = old;
-  new_run = run_in room old chunks;
-  link = links_in room;
+  old_run = option_map (run_of geo) old;
+  new_run = option_map (run_at chunks) (spot_in room old);
+  link = is_new_tier room;
 }
 
-abbrev pub taking : Op → List ℕ → Option Run → Change
-taking op key old = record { op = op; kind = kind.Remove; key = key; value = []; old_run = old; new_run = None; link = false }
+abbrev pub taking : Geo → Op → List ℕ → Option Placed → Change
+taking geo op key old = record {
+  op = op;
+  kind = kind.Remove;
+  key = key;
+  value = [];
+  old_run = option_map (run_of geo) old;
+  new_run = None;
+  link = false;
+}
 
 abbrev pub change_of : Geo → State → Op → List ℕ → Option (List ℕ) → Change
-change_of geo state op key None = taking op key (option_map (run_of geo) (found key state))
+change_of geo state op key None = taking geo op key (found key state)
 change_of geo state op key (Some value) =
-    let chunks = need geo (length key) (length value) in
-    placing op key value (option_map (run_of geo) (found key state)) (room_for geo state key chunks) chunks
+    let chunks = need geo (length key) (length value) in placing geo op key value (found key state) (room_for geo state key chunks) chunks
 
 -- the change that an operation plans for a key in a state
 abbrev pub planned : Geo → State → Op → List ℕ → Change
@@ -88,10 +92,13 @@ with_entry geo entry entries =
     filter (λ other. nat_lt (run_start geo other) (run_start geo entry)) entries
     ++ entry ∷ filter (λ other. nat_lt (run_start geo entry) (run_start geo other)) entries
 
+-- an entry at a chunk
+abbrev pub entry_at : List ℕ → List ℕ → ℕ → ℕ → Placed
+entry_at key value place chunk = record { place = place; chunk = chunk; key = key; value = value }
+
 abbrev pub entries_after : Geo → Change → Option Run → List Placed → List Placed
 entries_after geo change None others = others
-entries_after geo change (Some run) others =
-    with_entry geo (record { place = run.place; chunk = run.chunk; key = change.key; value = change.value }) others
+entries_after geo change (Some run) others = with_entry geo (entry_at change.key change.value run.place run.chunk) others
 
 abbrev pub chain_after : Bool → Option Run → List ℕ → List ℕ
 chain_after true (Some run) chain = chain ++ run.place ∷ []

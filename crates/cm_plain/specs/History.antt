@@ -7,7 +7,7 @@ use Rattle.cm_plain.specs.declared.op.Op.{Op}
 use Rattle.cm_plain.specs.declared.reply.Reply.{Reply}
 use Rattle.cm_plain.specs.declared.reply.Reply.TheVariants as reply
 use Rattle.cm_plain.specs.declared.receipt.Receipt.{Receipt}
-use Rattle.cm_plain.specs.declared.state.State.{State}
+use Rattle.cm_plain.specs.States.{State}
 use Rattle.cm_plain.specs.Steps.{Step, is_change}
 
 -- a receipt, with the operation that it answers

@@ -4,3 +4,4 @@ pub mod Rooms
 pub mod Changes
 pub mod Steps
 pub mod History
+pub mod Segments

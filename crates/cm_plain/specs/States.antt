@@ -9,9 +9,13 @@ use Rattle.std.specs.List.Sorted.{IsPermutation, IsSortedByKey}
 use Rattle.cm_geo.specs.declared.geo.Geo.{Geo}
 use Rattle.cm_geo.specs.Hash.{segment_of_key}
 use Rattle.cm_geo.specs.Need.{Fits, need}
-use Rattle.cm_plain.specs.declared.state.Placed.{Placed}
-use Rattle.cm_plain.specs.declared.state.State.{State}
+use Rattle.cm_plain.specs.declared.placed.Placed.{Placed}
 use Rattle.cm_plain.specs.declared.reply.Pair.{Pair}
+
+-- the places of the tiers in the order of the chain, and the entries in them
+pub record State : Type 0 where
+  pub chain : List ℕ
+  pub entries : List Placed
 
 -- the chunks of an entry's run
 abbrev pub chunks_of : Geo → Placed → ℕ
@@ -24,12 +28,16 @@ run_start geo entry = entry.place * geo.chunks + entry.chunk
 abbrev pub run_end : Geo → Placed → ℕ
 run_end geo entry = run_start geo entry + chunks_of geo entry
 
--- an entry fits the geometry, is of this segment, and its run lies in a tier of the chain
-pub record IsPlaced (geo : Geo) (segment : ℕ) (chain : List ℕ) (entry : Placed) : Type 0 where
+-- an entry fits the geometry, and its run lies in a tier
+pub record HasRun (geo : Geo) (entry : Placed) : Type 0 where
   pub fits : Fits geo (length entry.key) (length entry.value)
+  pub inside : entry.chunk + chunks_of geo entry ≤ geo.chunks
+
+-- an entry is of this segment, and its run lies in a tier of the chain
+pub record IsPlaced (geo : Geo) (segment : ℕ) (chain : List ℕ) (entry : Placed) : Type 0 where
   pub here : segment_of_key geo entry.key ≡ segment
   pub chained : Contains chain entry.place
-  pub inside : entry.chunk + chunks_of geo entry ≤ geo.chunks
+  pub run : HasRun geo entry
 
 -- a chain has 1 to the most tiers, at different places, the first at place 0
 pub record IsChain (geo : Geo) (chain : List ℕ) : Type 0 where
@@ -50,8 +58,11 @@ abbrev pub one_tier : State
 one_tier = record { chain = 0 ∷ []; entries = [] }
 
 -- the entry of a key
+abbrev pub found_among : List ℕ → List Placed → Option Placed
+found_among key entries = find (λ entry. bytes_eq entry.key key) entries
+
 abbrev pub found : List ℕ → State → Option Placed
-found key state = find (λ entry. bytes_eq entry.key key) state.entries
+found key state = found_among key state.entries
 
 -- the value of a key
 abbrev pub value_of : List ℕ → State → Option (List ℕ)

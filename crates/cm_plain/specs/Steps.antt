@@ -13,10 +13,12 @@ use Rattle.cm_plain.specs.declared.plan.PlanKind.TheVariants as kind
 use Rattle.cm_plain.specs.declared.reply.Pair.{Pair}
 use Rattle.cm_plain.specs.declared.reply.Reply.{Reply}
 use Rattle.cm_plain.specs.declared.reply.Reply.TheVariants as reply
-use Rattle.cm_plain.specs.declared.state.Placed.{Placed}
-use Rattle.cm_plain.specs.declared.state.State.{State}
+use Rattle.cm_plain.specs.declared.placed.Placed.{Placed}
+use Rattle.cm_plain.specs.States.{State}
 use Rattle.cm_plain.specs.States.{IsState, Lists, found, value_of}
-use Rattle.cm_plain.specs.Rooms.{Room, in_place, elsewhere, new_tier, nowhere, room_for}
+use Rattle.cm_plain.specs.declared.room.Room.{Room}
+use Rattle.cm_plain.specs.declared.room.Room.TheVariants.{InPlace}
+use Rattle.cm_plain.specs.Rooms.{is_new_tier, is_nowhere, room_for}
 use Rattle.cm_plain.specs.Changes.{Change, planned, placed_value, after}
 
 -- the last number of changes that a segment counts to
@@ -105,15 +107,7 @@ room_wanted geo state (Put key value) = room_for geo state key (need geo (length
 room_wanted geo state (PutIfAbsent key value) = room_for geo state key (need geo (length key) (length value))
 room_wanted geo state (Replace key value) = room_for geo state key (need geo (length key) (length value))
 room_wanted geo state (ReplaceIf key expected value) = room_for geo state key (need geo (length key) (length value))
-room_wanted geo state _ = in_place
-
-abbrev pub is_nowhere : Room → Bool
-is_nowhere nowhere = true
-is_nowhere _ = false
-
-abbrev pub is_new_tier : Room → Bool
-is_new_tier (new_tier place) = true
-is_new_tier _ = false
+room_wanted geo state _ = InPlace
 
 -- what is done with an operation
 pub data Course : Type 0 where

@@ -5,17 +5,22 @@
 mod bytes;
 mod list_of;
 mod op;
+mod placed;
 mod plan;
 mod receipt;
 mod reply;
-mod state;
+mod room;
+mod rooms;
+mod segment;
 mod stop;
 
 pub use bytes::Bytes;
 pub use list_of::ListOf;
 pub use op::Op;
+pub use placed::Placed;
 pub use plan::{PlanKind, Run};
 pub use receipt::{MapLine, Receipt};
 pub use reply::{Pair, PairList, Reply};
-pub use state::{Placed, State};
+pub use room::{Room, Spot};
+pub use segment::PlainSegment;
 pub use stop::{Failed, NoMemory};
