@@ -3,3 +3,4 @@ pub mod Ranges
 pub mod InOrder
 pub mod Apart
 pub mod OneRole
+pub mod Kept
