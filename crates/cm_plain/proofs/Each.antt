@@ -106,3 +106,7 @@ across_tests R symmetric test other excludes (x ∷ xs) h =
             across_as R (filter test (x ∷ xs)) (filter test xs) (filter other (x ∷ xs)) (filter other xs) (rw fails refl) (rw left refl) later
       ]
     ]
+
+pub pairs_weaker : {X : Type 0} (R S : X → X → Type 0) → ((x y : X) → R x y → S x y) → (xs : List X) → Pairs R xs → Pairs S xs
+pairs_weaker R S gives [] h = tt
+pairs_weaker R S gives (x ∷ xs) h = (each_weaker (R x) (S x) (gives x) xs h.0, pairs_weaker R S gives xs h.1)

@@ -3,3 +3,5 @@ pub mod Each
 pub mod Apart
 pub mod Chains
 pub mod Placing
+pub mod Splits
+pub mod Stepping

@@ -249,6 +249,38 @@ in_longer InPlace chain at c = c
 in_longer (Elsewhere spot) chain at c = c
 in_longer Nowhere chain at c = c
 
+-- how an entry goes to its room
+goes_in : (geo : Geo) (segment : ℕ) (state : State) (key value : List ℕ) (spot : Spot) → IsState geo segment state → Fits geo (length key) (length value)
+    → (room : Room) → room_for geo state key (need geo (length key) (length value)) ≡ room → spot_in room (found key state) ≡ Some spot
+    → Goes geo (without key state.entries) (chain_for room state.chain) (entry_at key value spot.place spot.chunk)
+goes_in geo segment state key value spot is fits room room_is at =
+    let at' : spot_in (room_for geo state key (need geo (length key) (length value))) (found key state) ≡ Some spot = rw room_is at in
+    (subst (λ (it : Room). GoesTo geo state key value it spot) room_is (goes_beside geo segment state key value spot is fits (found key state) refl at')).goes
+
+-- so its run begins where no other does
+pub starts_apart : (geo : Geo) (segment : ℕ) (state : State) (key value : List ℕ) (spot : Spot) → IsState geo segment state → Fits geo (length key) (length value)
+    → (room : Room) → room_for geo state key (need geo (length key) (length value)) ≡ room → spot_in room (found key state) ≡ Some spot
+    → All (λ other. run_start geo other ≢ run_start geo (entry_at key value spot.place spot.chunk)) (without key state.entries)
+starts_apart geo segment state key value spot is fits room room_is at =
+    let entry : Placed = entry_at key value spot.place spot.chunk in
+    let goes = goes_in geo segment state key value spot is fits room room_is at in
+    All-from_recursion (λ other. run_start geo other ≢ run_start geo entry) (without key state.entries)
+    (each_weaker (λ other. IsApart geo other entry) (λ other. run_start geo other ≢ run_start geo entry)
+    (λ other h. apart_starts (run_start geo other) (chunks_of geo other) (run_start geo entry) (chunks_of geo entry) (chunks_some geo other) (chunks_some geo entry) h) (without key state.entries) goes.apart)
+  where
+    apart_starts : (start chunks at more : ℕ) → 1 ≤ chunks → 1 ≤ more → (start + chunks ≤ at) ⊎ (at + more ≤ start) → start ≢ at
+    apart_starts start chunks at more h k apart e = grind arith
+
+-- the others stay in rising order
+pub rising_without : (geo : Geo) (segment : ℕ) (state : State) (key : List ℕ) → IsState geo segment state → AllPairs (Rising geo) (without key state.entries)
+rising_without geo segment state key is =
+    all_from_pairs (Rising geo) (without key state.entries) (pairs_kept (Rising geo) (λ other. not (is_at key other)) state.entries (pairs_from_all (Rising geo) state.entries is.runs))
+
+-- an entry that is found has a run
+pub found_run : (geo : Geo) (segment : ℕ) (state : State) (key : List ℕ) (old : Placed) → IsState geo segment state → found key state ≡ Some old → HasRun geo old
+found_run geo segment state key old is e =
+    found_has (HasRun geo) (is_at key) state.entries old (runs_of geo segment state.chain state.entries (recursion_from_All (IsPlaced geo segment state.chain) state.entries is.placed)) e
+
 -- the state with the value in its room is a state
 pub placed_state : (geo : Geo) (segment : ℕ) (state : State) (key value : List ℕ) (spot : Spot) → IsState geo segment state → Fits geo (length key) (length value)
     → segment_of_key geo key ≡ segment → (room : Room) → room_for geo state key (need geo (length key) (length value)) ≡ room → spot_in room (found key state) ≡ Some spot
@@ -257,9 +289,7 @@ placed_state geo segment state key value spot is fits here room room_is at =
     let entry : Placed = entry_at key value spot.place spot.chunk in
     let others = without key state.entries in
     let chain = chain_for room state.chain in
-    let at' : spot_in (room_for geo state key (need geo (length key) (length value))) (found key state) ≡ Some spot = rw room_is at in
-    let goes' = goes_beside geo segment state key value spot is fits (found key state) refl at' in
-    let goes : Goes geo others chain entry = (subst (λ (it : Room). GoesTo geo state key value it spot) room_is goes').goes in
+    let goes = goes_in geo segment state key value spot is fits room room_is at in
     let placed = recursion_from_All (IsPlaced geo segment state.chain) state.entries is.placed in
     let kept : AllByRecursion (IsPlaced geo segment chain) others = each_kept (IsPlaced geo segment state.chain) (IsPlaced geo segment chain) (λ other. not (is_at key other))
     (λ other h e. record { here = h.here; chained = in_longer room state.chain other.place h.chained; run = h.run }) state.entries placed in

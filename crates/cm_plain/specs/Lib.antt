@@ -5,3 +5,4 @@ pub mod Changes
 pub mod Steps
 pub mod History
 pub mod Segments
+pub mod Placings

@@ -117,14 +117,15 @@ pub data Course : Type 0 where
   is_spent : Course
   goes : Course
 
--- the first of these that applies: the condition isn't met; no room in a chain that may not grow; no number left; a new tier without the grant
+-- what is done with a change that wants this room: there is none in a chain that may not grow; no number is left; a new tier isn't granted
+abbrev pub course_in : Room → ℕ → Bool → Course
+course_in room number grant =
+    if is_nowhere room then is_full
+    else (if number == last_number then is_worn else (if is_new_tier room && not grant then is_spent else goes))
+
+-- the first of these that applies: the condition isn't met, or what is done with the change
 abbrev pub course : Geo → State → ℕ → Bool → Op → Course
-course geo state number grant op =
-    if not (would_change op state) then stays
-    else (if is_nowhere (room_wanted geo state op) then is_full
-    else (if number == last_number then is_worn
-    else (if is_new_tier (room_wanted geo state op) && not grant then is_spent
-    else goes)))
+course geo state number grant op = if would_change op state then course_in (room_wanted geo state op) number grant else stays
 
 abbrev pub StepBy : Course → Geo → ℕ → State → Op → State → Reply → Type 0
 StepBy stays geo segment state op later answer = (later ≡ state) × AnswersUnchanged op state answer

@@ -3,6 +3,7 @@
 #![tactic(auto)]
 
 mod bytes;
+mod entries;
 mod list_of;
 mod op;
 mod placed;

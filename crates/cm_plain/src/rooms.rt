@@ -4,7 +4,7 @@ ghost use Rattle.std.specs.Prelude.{◌≡◌, ◌+◌, ◌^◌, ◌<◌, ◌≤
 ghost use Rattle.std.specs.List.{list_any};
 ghost use Rattle.std.specs.Option.{option_copied, ForSome};
 ghost use Rattle.cm_plain.specs.States.{HasRun, State, chunks_of as chunks_in, found_among};
-ghost use Rattle.cm_plain.specs.Rooms.{can_stay as can_stay_in, first_fit as first_fit_in, is_free as is_free_in, least_free as least_free_in, lowest_unlinked as lowest_unlinked_in, meets as meets_in, room_beside};
+ghost use Rattle.cm_plain.specs.Rooms.{can_stay as can_stay_in, first_fit as first_fit_in, is_free as is_free_in, least_free as least_free_in, lowest_unlinked as lowest_unlinked_in, meets as meets_in, is_new_tier, room_beside, spot_in as spot_of};
 
 use crate::placed::Placed;
 use crate::room::{Room, Spot};
@@ -133,4 +133,65 @@ pub fn room(geo: &Geo, chain: &[u32], entries: &[Placed], old: Option<&Placed>, 
     } else {
         Room::Nowhere
     }
+}
+
+/// The chunk at which a value goes, beside the key's old entry; none where there is no room.
+pub fn spot_in(room: Room, old: Option<&Placed>) -> Option<Spot>
+    ensures { result ≡ spot_of room (option_copied old.entry) }
+{
+    match room {
+        Room::InPlace => old.map(|old| Spot {
+            place: old.place,
+            chunk: old.chunk,
+        }),
+        Room::Elsewhere(spot) => Some(spot),
+        Room::NewTier(place) => Some(Spot { place, chunk: 0 }),
+        Room::Nowhere => None,
+    }
+}
+
+/// Whether a value goes to a new tier.
+pub fn links(room: Room) -> bool
+    ensures { result ≡ is_new_tier room }
+{
+    matches!(room, Room::NewTier(_))
+}
+
+/// Where a key's value goes, and whether it replaces an old one.
+#[derive(Clone, Copy)]
+pub struct Placing {
+    pub room: Room,
+    pub spot: Spot,
+    pub replaces: bool,
+}
+
+ghost use Rattle.std.specs.Prelude.{MatchOption, None};
+ghost use Rattle.cm_geo.specs.Need.{Fits, need};
+ghost use Rattle.cm_plain.specs.Placings.{IsPlacing};
+ghost use Rattle.cm_plain.specs.Rooms.{room_for};
+
+/// Where a value of so many bytes goes that is placed for a key; none where there is no room.
+pub fn placing_of(
+    geo: &Geo,
+    chain: &[u32],
+    entries: &[Placed],
+    key: &[u8],
+    value_len: u32,
+) -> Option<Placing>
+    requires runs { All (HasRun geo.now) entries.now }
+    requires fits { Fits geo.now (length key.now) value_len }
+    ensures { MatchOption result
+        (spot_of (room_for geo.now (record { chain = chain.now; entries = entries.now }) key.now (need geo.now (length key.now) value_len)) (found_among key.now entries.now) ≡ None)
+        (IsPlacing geo.now (record { chain = chain.now; entries = entries.now }) key.now value_len) }
+{
+    let chunks = geo.need(key.len() as u32, value_len);
+    let old = find_entry(entries, key);
+    let replaces = old.is_some();
+    let room = room(geo, chain, entries, old, chunks);
+    let spot = spot_in(room, old)?;
+    Some(Placing {
+        room,
+        spot,
+        replaces,
+    })
 }

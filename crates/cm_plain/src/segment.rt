@@ -1,10 +1,17 @@
 //! A segment kept as a plain list of entries: slow, and plainly the bounded map.
 
+use crate::bytes::Bytes;
+use crate::entries::put_entry;
 use crate::placed::Placed;
+use crate::reply::Reply;
+use crate::rooms::{links, placing_of};
 use crate::stop::NoMemory;
 use cm_geo::Geo;
 use std::alloc::Global;
 use std::marker::Model;
+
+/// The last number of changes that a segment counts to.
+const LAST_NUMBER: u64 = 1 << 62;
 
 /// One segment of a map, as a list of its entries.
 #[derive(Drop)]
@@ -27,7 +34,10 @@ impl Model for PlainSegment {
 }
 
 impl PlainSegment {
-    ghost use Rattle.std.specs.Prelude.{◌≡◌, ◌<◌, IfOk};
+    ghost use Rattle.std.specs.Prelude.{◌≡◌, ◌<◌, IfOk, OnErr, length};
+    ghost use Rattle.cm_geo.specs.Hash.{segment_of_key};
+    ghost use Rattle.cm_geo.specs.Need.{Fits};
+    ghost use Rattle.cm_plain.specs.Segments.{Answered, Places};
     ghost use Rattle.cm_plain.specs.States.{one_tier};
 
     /// How many changes the segment took.
@@ -35,5 +45,45 @@ impl PlainSegment {
         ensures { result ≡ self.now.number }
     {
         self.number
+    }
+
+    /// Places a value for a key.
+    fn place(
+        &mut self,
+        alloc: Global,
+        key: &[u8],
+        value: &[u8],
+        grant: bool,
+    ) -> Result<Reply, NoMemory>
+        requires fits { Fits self.old.geo (length key.now) (length value.now) }
+        requires here { segment_of_key self.old.geo key.now ≡ self.old.segment }
+        ensures ok { IfOk result (Places self.old self.new grant key.now value.now) }
+        ensures err { OnErr result (self.new ≡ self.old) }
+    {
+        let chain = self.chain.as_slice();
+        let entries = self.entries.as_slice();
+        let Some(placing) = placing_of(&self.geo, chain, entries, key, value.len() as u32) else {
+            return Ok(Reply::FullChain);
+        };
+        if self.number == LAST_NUMBER {
+            return Ok(Reply::Worn);
+        }
+        let links = links(placing.room);
+        if links && !grant {
+            return Ok(Reply::FullSpent);
+        }
+        let entry = Placed {
+            place: placing.spot.place,
+            chunk: placing.spot.chunk,
+            key: Bytes::of(alloc, key)?,
+            value: Bytes::of(alloc, value)?,
+        };
+        put_entry(&self.geo, &mut self.chain, &mut self.entries, links, entry)?;
+        self.number += 1;
+        Ok(if placing.replaces {
+            Reply::Replaced
+        } else {
+            Reply::New
+        })
     }
 }

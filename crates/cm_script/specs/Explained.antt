@@ -11,7 +11,7 @@ use Rattle.cm_plain.specs.declared.reply.Reply.{Reply}
 use Rattle.cm_plain.specs.declared.reply.Reply.TheVariants.{Swept}
 use Rattle.cm_plain.specs.declared.receipt.Receipt.{Receipt}
 use Rattle.cm_plain.specs.declared.receipt.MapLine.{MapLine}
-use Rattle.cm_plain.specs.declared.state.State.{State}
+use Rattle.cm_plain.specs.States.{State}
 use Rattle.cm_plain.specs.Limits.{segment_of}
 use Rattle.cm_plain.specs.States.{Lists}
 use Rattle.cm_plain.specs.History.{Call, Legal, changes}

@@ -1,0 +1,143 @@
+-- How the changes of a segment are steps of the bounded map.
+use Rattle.std.proofs.Common.{◌≡◌, ◌≢◌, ◌∙◌, ℕ, ◌+◌, ◌<◌, ◌≤◌, ◌==◌, ◌&&◌, Bool, true, false, not, List, [], ◌∷◌, ◌++◌, length, Option, Some, None, refl, sym, ap, subst, arith, cond}
+use Rattle.std.specs.Prelude.{if◌then◌else◌, is_some}
+use Rattle.std.specs.Option.{option_map}
+use Rattle.std.proofs.lemmas.Bool.{cases_Bool}
+use Rattle.std.proofs.lemmas.Bool.Decides.{nat_tests}
+use Rattle.cm_geo.specs.declared.geo.Geo.{Geo}
+use Rattle.cm_geo.specs.Hash.{segment_of_key}
+use Rattle.cm_geo.specs.Need.{Fits, need}
+use Rattle.cm_plain.specs.declared.op.Op.{Op}
+use Rattle.cm_plain.specs.declared.placed.Placed.{Placed}
+use Rattle.cm_plain.specs.declared.reply.Reply.{Reply}
+use Rattle.cm_plain.specs.declared.reply.Reply.TheVariants as reply
+use Rattle.cm_plain.specs.declared.room.Spot.{Spot}
+use Rattle.cm_plain.specs.declared.room.Room.{Room}
+use Rattle.cm_plain.specs.declared.room.Room.TheVariants.{InPlace, Elsewhere, NewTier, Nowhere}
+use Rattle.cm_plain.specs.States.{IsState, State, found}
+use Rattle.cm_plain.specs.Rooms.{is_new_tier, is_nowhere, room_for, spot_in}
+use Rattle.cm_plain.specs.Changes.{after, entry_at, kind_in, placing, planned, with_entry, without}
+use Rattle.cm_plain.specs.Steps.{Plans, Step, Course, StepBy, course, goes, is_change, last_number, reply_of}
+use Rattle.cm_plain.specs.declared.rooms.Placing.{Placing}
+use Rattle.cm_plain.specs.Placings.{IsPlacing}
+use Rattle.cm_plain.specs.Segments.{Answered, IsSegment, Places, PlacesFor, Segment}
+use Rattle.cm_plain.specs.States.{run_start}
+use Rattle.std.specs.List.{All}
+use Rattle.cm_plain.proofs.Placing.{chain_for, placed_state, starts_apart}
+
+some_same : {a b : Spot} → Some a ≡ Some b → a ≡ b
+some_same e = cc e
+
+-- the chain after a value went to its room
+pub chain_is : (room : Room) (old : Option Placed) (spot : Spot) (chain : List ℕ) → spot_in room old ≡ Some spot
+    → chain_for room chain ≡ (if is_new_tier room then chain ++ spot.place ∷ [] else chain)
+chain_is InPlace old spot chain e = refl
+chain_is (Elsewhere there) old spot chain e = refl
+chain_is (NewTier place) old spot chain e = let same : place ≡ spot.place = ap (λ (s : Spot). s.place) (some_same e) in rw same refl
+chain_is Nowhere old spot chain e = cc e
+
+-- the state after a value went to its room
+abbrev pub state_with : Geo → State → List ℕ → List ℕ → Room → Spot → State
+state_with geo state key value room spot =
+    record { chain = chain_for room state.chain; entries = with_entry geo (entry_at key value spot.place spot.chunk) (without key state.entries) }
+
+after_is : (geo : Geo) (state : State) (op : Op) (key value : List ℕ) (room : Room) (old : Option Placed) (chunks : ℕ) (spot : Spot) → spot_in room old ≡ Some spot
+    → after geo (placing geo op key value old room chunks) state ≡ state_with geo state key value room spot
+after_is geo state op key value InPlace None chunks spot e = cc e
+after_is geo state op key value InPlace (Some old) chunks spot e = ap (λ (s : Spot). state_with geo state key value InPlace s) (some_same e)
+after_is geo state op key value (Elsewhere there) old chunks spot e = ap (λ (s : Spot). state_with geo state key value (Elsewhere there) s) (some_same e)
+after_is geo state op key value (NewTier place) old chunks spot e = ap (λ (s : Spot). state_with geo state key value (NewTier place) s) (some_same e)
+after_is geo state op key value Nowhere old chunks spot e = cc e
+
+-- the reply to a value that was placed
+abbrev pub reply_beside : Bool → Reply
+reply_beside false = reply.New
+reply_beside true = reply.Replaced
+
+reply_is : (room : Room) (old : Option Placed) (op : Op) (key : List ℕ) → reply_of (kind_in room old) op key ≡ reply_beside (is_some old)
+reply_is room None op key = refl
+reply_is InPlace (Some old) op key = refl
+reply_is (Elsewhere there) (Some old) op key = refl
+reply_is (NewTier place) (Some old) op key = refl
+reply_is Nowhere (Some old) op key = refl
+
+there_is : (room : Room) (old : Option Placed) (spot : Spot) → spot_in room old ≡ Some spot → is_nowhere room ≡ false
+there_is InPlace old spot e = refl
+there_is (Elsewhere there) old spot e = refl
+there_is (NewTier place) old spot e = refl
+there_is Nowhere old spot e = cc e
+
+is_change_beside : (had : Bool) → is_change (reply_beside had) ≡ true
+is_change_beside true = refl
+is_change_beside false = refl
+
+-- a value that was placed was placed by one step
+pub step_placed : (seen : Segment) (grant : Bool) (key value : List ℕ) (room : Room) (spot : Spot) (op : Op) → IsState seen.geo seen.segment seen.state
+    → Fits seen.geo (length key) (length value) → segment_of_key seen.geo key ≡ seen.segment → room_for seen.geo seen.state key (need seen.geo (length key) (length value)) ≡ room
+    → spot_in room (found key seen.state) ≡ Some spot → (seen.number == last_number) ≡ false → (is_new_tier room && not grant) ≡ false → PlacesFor seen key value op
+    → Step seen.geo seen.segment seen.state seen.number grant op (state_with seen.geo seen.state key value room spot) (reply_beside (is_some (found key seen.state)))
+step_placed seen grant key value room spot op is fits here room_is at counts granted places =
+    let geo = seen.geo in
+    let state = seen.state in
+    let chunks = need geo (length key) (length value) in
+    let old = found key state in
+    let change = placing geo op key value old room chunks in
+    let planned_is : change ≡ planned geo state op key = rw (places.placed, room_is) refl in
+    let later : after geo change state ≡ state_with geo state key value room spot = after_is geo state op key value room old chunks spot at in
+    let leads : IsState geo seen.segment (after geo change state) = subst (IsState geo seen.segment) (sym later) (placed_state geo seen.segment state key value spot is fits here room room_is at) in
+    let plans : Plans geo seen.segment state op change = record { met = places.met; key = places.keyed; change_is = planned_is; leads = leads } in
+    let course_is : course geo state seen.number grant op ≡ goes = rw (places.met, places.wanted, room_is, there_is room old spot at, counts, granted) refl in
+    subst (λ (it : Course). StepBy it geo seen.segment state op (state_with geo state key value room spot) (reply_beside (is_some old))) (sym course_is)
+    (change, plans, sym later, sym (reply_is room old op key))
+
+-- the segment after a value went to its room
+abbrev pub segment_with : Segment → List ℕ → List ℕ → Placing → Segment
+segment_with seen key value placing = record {
+  geo = seen.geo;
+  segment = seen.segment;
+  number = seen.number + 1;
+  state = state_with seen.geo seen.state key value placing.room placing.spot;
+}
+
+pub placing_apart : (seen : Segment) (key value : List ℕ) (placing : Placing) → IsSegment seen → Fits seen.geo (length key) (length value)
+    → IsPlacing seen.geo seen.state key (length value) placing
+    → All (λ other. run_start seen.geo other ≢ run_start seen.geo (entry_at key value placing.spot.place placing.spot.chunk)) (without key seen.state.entries)
+placing_apart seen key value placing is fits placed =
+    starts_apart seen.geo seen.segment seen.state key value placing.spot is.rests fits placing.room placed.room_is placed.spot_is
+
+pub is_segment_with : (seen : Segment) (key value : List ℕ) (placing : Placing) → IsSegment seen → Fits seen.geo (length key) (length value)
+    → segment_of_key seen.geo key ≡ seen.segment → IsPlacing seen.geo seen.state key (length value) placing → seen.number ≢ last_number
+    → IsSegment (segment_with seen key value placing)
+is_segment_with seen key value placing is fits here placed counts = record {
+  rests = placed_state seen.geo seen.segment seen.state key value placing.spot is.rests fits here placing.room placed.room_is placed.spot_is;
+  counted = below seen.number last_number is.counted counts;
+}
+  where
+    below : (number last : ℕ) → number ≤ last → number ≢ last → number + 1 ≤ last
+    below number last h ne = omega arith
+
+-- the segment that was made is the one with the value
+pub same_segment : (seen : Segment) (key value : List ℕ) (placing : Placing) (links : Bool) (chain : List ℕ) (entries : List Placed)
+    → IsPlacing seen.geo seen.state key (length value) placing → links ≡ is_new_tier placing.room
+    → chain ≡ (if links then seen.state.chain ++ placing.spot.place ∷ [] else seen.state.chain)
+    → entries ≡ with_entry seen.geo (entry_at key value placing.spot.place placing.spot.chunk) (without key seen.state.entries)
+    → segment_with seen key value placing ≡ record { geo = seen.geo; segment = seen.segment; number = seen.number + 1; state = record { chain = chain; entries = entries } }
+same_segment seen key value placing links chain entries placed links_is chain_is' entries_is =
+    let e : chain ≡ chain_for placing.room seen.state.chain = rw links_is at chain_is' ∙ sym (chain_is placing.room (found key seen.state) placing.spot seen.state.chain placed.spot_is) in
+    rw (e, entries_is) refl
+
+pub places_with : (seen : Segment) (grant : Bool) (key value : List ℕ) (placing : Placing) (answer : Reply) → IsSegment seen → Fits seen.geo (length key) (length value)
+    → segment_of_key seen.geo key ≡ seen.segment → IsPlacing seen.geo seen.state key (length value) placing → (seen.number == last_number) ≡ false
+    → (is_new_tier placing.room && not grant) ≡ false → answer ≡ reply_beside placing.replaces → Places seen (segment_with seen key value placing) grant key value answer
+places_with seen grant key value placing answer is fits here placed counts granted answer_is =
+    let had = is_some (found key seen.state) in
+    let replies : answer ≡ reply_beside had = answer_is ∙ ap reply_beside placed.replaces_is in
+    record {
+      answers = λ op places. record {
+        geo_same = refl;
+        segment_same = refl;
+        step = subst (λ (it : Reply). Step seen.geo seen.segment seen.state seen.number grant op (state_with seen.geo seen.state key value placing.room placing.spot) it) (sym replies)
+            (step_placed seen grant key value placing.room placing.spot op is.rests fits here placed.room_is placed.spot_is counts granted places);
+        number_is = rw (replies, is_change_beside had) refl;
+      };
+    }
