@@ -1,7 +1,8 @@
 -- A segment as its callers see it.
-use Rattle.std.specs.Prelude.{ℕ, ◌≡◌, ◌+◌, ◌≤◌, Bool, true, List, length, Option, Some, None, if◌then◌else◌}
+use Rattle.std.specs.Prelude.{ℕ, ◌≡◌, ◌+◌, ◌≤◌, Bool, true, false, List, length, Option, Some, None, if◌then◌else◌}
 use Rattle.cm_geo.specs.declared.geo.Geo.{Geo}
 use Rattle.cm_plain.specs.declared.op.Op.{Op}
+use Rattle.cm_plain.specs.declared.op.Op.TheVariants.{Put, Get, List as ListAll}
 use Rattle.cm_plain.specs.declared.reply.Reply.{Reply}
 use Rattle.cm_plain.specs.States.{State, IsState}
 use Rattle.cm_geo.specs.Need.{need}
@@ -38,3 +39,10 @@ pub record PlacesFor (seen : Segment) (key value : List ℕ) (op : Op) : Type 0 
 -- each operation that places this value for this key was answered
 pub record Places (old new : Segment) (grant : Bool) (key value : List ℕ) (answer : Reply) : Type 0 where
   pub answers : (op : Op) → PlacesFor old key value op → Answered old new grant op answer
+
+-- the operations that a plain segment answers so far
+abbrev pub is_built : Op → Bool
+is_built (Put key value) = true
+is_built (Get key) = true
+is_built (ListAll segment) = true
+is_built _ = false

@@ -65,13 +65,20 @@ abbrev pub found : List ℕ → State → Option Placed
 found key state = found_among key state.entries
 
 -- the value of a key
+abbrev pub value_in : Option Placed → Option (List ℕ)
+value_in entry = option_map (λ entry. entry.value) entry
+
 abbrev pub value_of : List ℕ → State → Option (List ℕ)
-value_of key state = option_map (λ entry. entry.value) (found key state)
+value_of key state = value_in (found key state)
 
 abbrev pub pair_of : Placed → Pair
 pair_of entry = record { key = entry.key; value = entry.value }
 
--- the pairs are the contents of the state in byte order of their keys; places are forgotten
-pub record Lists (state : State) (pairs : List Pair) : Type 0 where
-  pub all : IsPermutation (map pair_of state.entries) pairs
+-- the pairs are those of the entries, in byte order of the keys
+pub record ListsEntries (entries : List Placed) (pairs : List Pair) : Type 0 where
+  pub all : IsPermutation (map pair_of entries) pairs
   pub in_order : IsSortedByKey (λ pair. pair.key) (slice_cmp nat_cmp) pairs
+
+-- the pairs are the contents of the state; places are forgotten
+abbrev pub Lists : State → List Pair → Type 0
+Lists state pairs = ListsEntries state.entries pairs

@@ -8,6 +8,7 @@ mod list_of;
 mod op;
 mod placed;
 mod plan;
+mod reads;
 mod receipt;
 mod reply;
 mod room;

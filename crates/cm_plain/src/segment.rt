@@ -2,7 +2,9 @@
 
 use crate::bytes::Bytes;
 use crate::entries::put_entry;
+use crate::op::Op;
 use crate::placed::Placed;
+use crate::reads::{got, listed};
 use crate::reply::Reply;
 use crate::rooms::{links, placing_of};
 use crate::stop::NoMemory;
@@ -34,11 +36,43 @@ impl Model for PlainSegment {
 }
 
 impl PlainSegment {
-    ghost use Rattle.std.specs.Prelude.{◌≡◌, ◌<◌, IfOk, OnErr, length};
+    ghost use Rattle.std.specs.Prelude.{◌≡◌, ◌<◌, true, IfOk, OnErr, length};
     ghost use Rattle.cm_geo.specs.Hash.{segment_of_key};
     ghost use Rattle.cm_geo.specs.Need.{Fits};
-    ghost use Rattle.cm_plain.specs.Segments.{Answered, Places};
+    ghost use Rattle.cm_plain.specs.Limits.{KeepsLimits, segment_of};
+    ghost use Rattle.cm_plain.specs.Segments.{Answered, Places, is_built};
     ghost use Rattle.cm_plain.specs.States.{one_tier};
+
+    /// One empty tier of a segment, which took no change. Takes memory.
+    pub fn new(alloc: Global, geo: &Geo, segment: u32) -> Result<PlainSegment, NoMemory>
+        requires { segment < geo.now.segments }
+        ensures { IfOk result (λ made. made ≡ record { geo = geo.now; segment = segment; number = 0; state = one_tier }) }
+    {
+        Ok(PlainSegment {
+            geo: *geo,
+            segment,
+            number: 0,
+            chain: [0].to_vec(alloc)?,
+            entries: Vec::new(alloc),
+        })
+    }
+
+    /// Answers an operation by one step of the bounded map, with or without the grant of a further tier.
+    /// Takes memory; after NoMemory nothing changed.
+    pub fn answer(&mut self, alloc: Global, op: &Op, grant: bool) -> Result<Reply, NoMemory>
+        requires limits { KeepsLimits self.old.geo op.now }
+        requires here { segment_of self.old.geo op.now ≡ self.old.segment }
+        requires built { is_built op.now ≡ true }
+        ensures ok { IfOk result (Answered self.old self.new grant op.now) }
+        ensures err { OnErr result (self.new ≡ self.old) }
+    {
+        match op {
+            Op::Put { key, value } => self.place(alloc, key.as_slice(), value.as_slice(), grant),
+            Op::Get { key } => got(alloc, self.entries.as_slice(), key.as_slice()),
+            Op::List { .. } => Ok(Reply::Pairs(listed(alloc, self.entries.as_slice())?)),
+            _ => unreachable!(),
+        }
+    }
 
     /// How many changes the segment took.
     pub fn number(&self) -> u64
