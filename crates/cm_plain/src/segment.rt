@@ -36,7 +36,7 @@ impl Model for PlainSegment {
 }
 
 impl PlainSegment {
-    ghost use Rattle.std.specs.Prelude.{◌≡◌, ◌<◌, true, IfOk, OnErr, length};
+    ghost use Rattle.std.specs.Prelude.{◌≡◌, ◌-◌, ◌<◌, true, IfOk, OnErr, length};
     ghost use Rattle.cm_geo.specs.Hash.{segment_of_key};
     ghost use Rattle.cm_geo.specs.Need.{Fits};
     ghost use Rattle.cm_plain.specs.Limits.{KeepsLimits, segment_of};
@@ -79,6 +79,13 @@ impl PlainSegment {
         ensures { result ≡ self.now.number }
     {
         self.number
+    }
+
+    /// How many tiers the chain has beyond the first one.
+    pub fn extra_tiers(&self) -> u32
+        ensures { result ≡ length self.now.state.chain - 1 }
+    {
+        (self.chain.len() - 1) as u32
     }
 
     /// Places a value for a key.

@@ -1,8 +1,9 @@
 -- The script of a text, or the first record that it is refused for (own; CSV is the kit's).
-use Rattle.std.specs.Prelude.{ℕ, ◌≡◌, ◌+◌, ◌^◌, ◌==◌, ◌&&◌, ◌||◌, not, Bool, true, false, List, [], ◌∷◌, length, nat_lt, nat_le, Option, Some, None, Result, Ok, Err, codes, if◌then◌else◌}
+use Rattle.std.specs.Prelude.{ℕ, ◌≡◌, ◌+◌, ◌^◌, ◌==◌, ◌&&◌, ◌||◌, not, Bool, true, false, List, [], ◌∷◌, All, length, nat_lt, nat_le, Option, Some, None, Result, Ok, Err, codes, if◌then◌else◌}
 use Rattle.std.specs.Str.{bytes_eq}
 use Rattle.cm_geo.specs.declared.geo.Geo.{Geo}
 use Rattle.cm_geo.specs.Need.{need}
+use Rattle.cm_plain.specs.Limits.{KeepsLimits}
 use Rattle.cm_plain.specs.declared.op.Op.{Op}
 use Rattle.cm_plain.specs.declared.op.Op.TheVariants as op
 use Rattle.cm_script.specs.declared.line.Line.{Line}
@@ -149,3 +150,7 @@ abbrev pub StopsScript : Geo → List ℕ → ScriptStop → Type 0
 StopsScript geo bytes stop.TooLong = script_of geo bytes ≡ Err too_long
 StopsScript geo bytes (stop.Refused line why) = script_of geo bytes ≡ Err (refused line why)
 StopsScript geo bytes stop.NoMemory = Unit {0}
+
+-- a script that was read for a geometry: each line is built and keeps the limits
+abbrev pub IsFor : Geo → List Line → Type 0
+IsFor geo lines = All (λ line. (is_built line ≡ true) × KeepsLimits geo line.op) lines
