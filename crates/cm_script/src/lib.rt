@@ -4,9 +4,11 @@
 mod line;
 mod report;
 mod stop;
+mod text;
 mod verb;
 
 pub use line::{Line, Script};
 pub use report::Report;
 pub use stop::{LineCause, ScriptStop};
+pub use text::render;
 pub use verb::Verb;
