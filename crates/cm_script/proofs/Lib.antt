@@ -1,1 +1,2 @@
-pub mod Flexible
+pub mod Mapped
+pub mod RowTexts

@@ -4,6 +4,8 @@
 mod line;
 mod report;
 mod stop;
+#[cfg(test)]
+mod tests_render;
 mod text;
 mod verb;
 

@@ -13,7 +13,7 @@ use csv::{ByteRecord, Writer, WriterBuilder};
 use itoa::Buffer;
 use std::alloc::Global;
 
-// One more field.
+// Adds a field.
 fn push(row: &mut ByteRecord, field: &[u8]) -> Result<(), NoMemory>
     requires { partial_of row.old ≡ [] }
     ensures fields { OnOk result (fields_of row.new ≡ fields_of row.old ++ field.now ∷ []) }
@@ -23,7 +23,17 @@ fn push(row: &mut ByteRecord, field: &[u8]) -> Result<(), NoMemory>
     Ok(())
 }
 
-// One more field, a number's decimal digits.
+// Adds two fields.
+fn push_two(row: &mut ByteRecord, first: &[u8], second: &[u8]) -> Result<(), NoMemory>
+    requires { partial_of row.old ≡ [] }
+    ensures fields { OnOk result (fields_of row.new ≡ fields_of row.old ++ first.now ∷ second.now ∷ []) }
+    ensures whole { OnOk result (partial_of row.new ≡ []) }
+{
+    push(row, first)?;
+    push(row, second)
+}
+
+// Adds a field with a number's decimal digits.
 fn push_number(row: &mut ByteRecord, number: u64) -> Result<(), NoMemory>
     requires { partial_of row.old ≡ [] }
     ensures fields { OnOk result (fields_of row.new ≡ fields_of row.old ++ decimal number ∷ []) }
@@ -33,7 +43,7 @@ fn push_number(row: &mut ByteRecord, number: u64) -> Result<(), NoMemory>
     push(row, digits.format(number).as_bytes())
 }
 
-// Two more fields for each pair.
+// Adds the key and the value of each pair.
 fn push_pairs(row: &mut ByteRecord, pairs: &[Pair]) -> Result<(), NoMemory>
     requires { partial_of row.old ≡ [] }
     ensures fields { OnOk result (fields_of row.new ≡ fields_of row.old ++ flat_map pair_fields pairs.now) }
@@ -46,17 +56,7 @@ fn push_pairs(row: &mut ByteRecord, pairs: &[Pair]) -> Result<(), NoMemory>
     Ok(())
 }
 
-// A word and what belongs to it.
-fn push_two(row: &mut ByteRecord, word: &[u8], field: &[u8]) -> Result<(), NoMemory>
-    requires { partial_of row.old ≡ [] }
-    ensures fields { OnOk result (fields_of row.new ≡ fields_of row.old ++ word.now ∷ field.now ∷ []) }
-    ensures whole { OnOk result (partial_of row.new ≡ []) }
-{
-    push(row, word)?;
-    push(row, field)
-}
-
-// The fields of an answer.
+// Adds an answer's word and its data.
 fn push_answer(row: &mut ByteRecord, reply: &Reply) -> Result<(), NoMemory>
     requires { partial_of row.old ≡ [] }
     ensures fields { OnOk result (fields_of row.new ≡ fields_of row.old ++ answer_fields reply.now) }
@@ -86,11 +86,11 @@ fn push_answer(row: &mut ByteRecord, reply: &Reply) -> Result<(), NoMemory>
     }
 }
 
-// What makes one record of a report.
+// What a report has a record of.
 trait Record {
     ghost fields: { Self → List (List ℕ) };
 
-    // Puts the fields in place of those that the row has.
+    // Puts the record's fields in place of those that the row has.
     fn fill(&self, row: &mut ByteRecord) -> Result<(), NoMemory>
         ensures { OnOk result (fields_of row.new ≡ fields self.now) };
 }
@@ -134,8 +134,12 @@ impl Record for Report {
     }
 }
 
-// Writes one record, by way of a row that is used again.
-fn write_one<T: Record>(writer: &mut Writer<Vec<u8>>, row: &mut ByteRecord, item: &T) -> Result<(), NoMemory>
+// Writes a record. The row is only lent, so that one row serves all records.
+fn write_one<T: Record>(
+    writer: &mut Writer<Vec<u8>>,
+    row: &mut ByteRecord,
+    item: &T,
+) -> Result<(), NoMemory>
     requires setup { writer_setup writer.old ≡ with_flexible default_writer true }
     requires between { (fields_written writer.old ≡ 0) × (has_written writer.old ≡ false) }
     ensures setup { OnOk result (writer_setup writer.new ≡ with_flexible default_writer true) }
@@ -144,15 +148,16 @@ fn write_one<T: Record>(writer: &mut Writer<Vec<u8>>, row: &mut ByteRecord, item
         (row_text default_writer (T.fields item.now))) }
 {
     item.fill(row)?;
-    match writer.write_byte_record(row) {
-        Ok(()) => Ok(()),
-        // a writer in memory fails for want of memory alone
-        Err(_) => Err(NoMemory),
-    }
+    // what stands under the writer is a `Vec`, which fails for want of memory alone
+    writer.write_byte_record(row).map_err(|_| NoMemory)
 }
 
 // Writes records, one after the other.
-fn write_all<T: Record>(writer: &mut Writer<Vec<u8>>, row: &mut ByteRecord, items: &[T]) -> Result<(), NoMemory>
+fn write_all<T: Record>(
+    writer: &mut Writer<Vec<u8>>,
+    row: &mut ByteRecord,
+    items: &[T],
+) -> Result<(), NoMemory>
     requires setup { writer_setup writer.old ≡ with_flexible default_writer true }
     requires between { (fields_written writer.old ≡ 0) × (has_written writer.old ≡ false) }
     ensures setup { OnOk result (writer_setup writer.new ≡ with_flexible default_writer true) }
@@ -177,8 +182,5 @@ pub fn render(alloc: Global, report: &Report) -> Result<Vec<u8>, NoMemory>
     write_all(&mut writer, &mut row, report.receipts.as_slice())?;
     write_all(&mut writer, &mut row, report.map.as_slice())?;
     write_one(&mut writer, &mut row, report)?;
-    match writer.into_inner() {
-        Ok(text) => Ok(text),
-        Err(_) => Err(NoMemory),
-    }
+    writer.into_inner().map_err(|_| NoMemory)
 }

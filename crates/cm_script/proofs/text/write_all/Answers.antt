@@ -3,7 +3,7 @@ use Rattle.std.proofs.Common.{◌≡◌, ◌++◌, ◌∙◌, ◌∷◌, [], ap,
 use Rattle.std.proofs.lemmas.List.{append-nil, map_more}
 use Rattle.csv.specs.Writing.{default_writer, row_text, text_written}
 use Rattle.cm_script.specs.Rows.{text_of_rows}
-use Rattle.cm_script.proofs.Flexible.{rows-more}
+use Rattle.cm_script.proofs.RowTexts.{text_of_rows-more}
 use Rattle.cm_script.proofs.text.write_all.Goals as goal
 
 pub loop-item-init : goal.loop-item-init
@@ -13,5 +13,5 @@ loop-item-init g c = record { setup = c.requires.setup; between = c.requires.bet
 pub loop-item-preserved : goal.loop-item-preserved
 loop-item-preserved g c =
     let done = c.in_ok-write_one.ensures in
-    let more = rows-more g.T.Record.fields c.args.items.now c.loop-item.item-index c.item-item.result _ _ c.loop-item-test.true c.item-item.is c.loop-item.invariant.text in
-    record { setup = done.setup; between = done.between; text = done.text ∙ more }
+    let more = text_of_rows-more g.T.Record.fields c.args.items.now c.loop-item.item-index c.item-item.result _ _ c.loop-item-test.true c.item-item.is c.loop-item.invariant.text in
+    record { setup = done.setup; between = done.between; text = rw done.text more }

@@ -1,17 +1,14 @@
 -- What csv writes for the row of a flexible writer is what the default writer writes for the fields.
 use Rattle.std.proofs.Common.{◌≡◌, ◌≢◌, ◌++◌, ℕ, List, ap}
+use Rattle.std.proofs.lemmas.Result.{on_ok_weaker}
 use Rattle.csv.specs.Writing.{default_writer, row_text, writer_setup}
 use Rattle.csv.specs.declared.writer.QuoteStyle.TheVariants as style
-use Rattle.cm_script.proofs.Flexible.{same-row}
+use Rattle.cm_script.proofs.Mapped.{IfOk-map_err}
+use Rattle.cm_script.proofs.RowTexts.{row_text-flexible}
 use Rattle.cm_script.proofs.text.write_one.Goals as goal
-use Rattle.cm_script.proofs.text.write_one.Goals.{in-Ok, in-Err}
 
 pub returns-clause-text : goal.returns-clause-text
 returns-clause-text g c =
-    let plain : (writer_setup c.args.writer.now).style ≢ style.NonNumeric = rw c.requires.setup (λ e. cc e) in
-    elim c.match-write_byte_record.branch [
-    | in-Ok w ↦
-        let written = rw (c.requires.setup, same-row) at (w.in-Ok.ensures.bytes c.requires.between.0 c.requires.between.1 plain) in
-        rw (w.result-is, ← c.in_ok-fill.ensures) written
-    | in-Err w ↦ rw w.result-is tt
-    ]
+    let bytes = rw (c.requires.setup, row_text-flexible, c.in_ok-fill.ensures) at c.write_byte_record.ensures.bytes in
+    IfOk-map_err c.write_byte_record.result c.map_err.result (λ _. _) _ c.map_err.ensures.cases c.map_err.ensures.variant
+    (on_ok_weaker c.write_byte_record.result (λ written. written c.requires.between.0 c.requires.between.1 (λ e. cc e)) bytes)
