@@ -1,5 +1,5 @@
 -- What is known of a result whose error was changed.
-use Rattle.std.proofs.Common.{◌≡◌, Result, Ok, Err, true, false}
+use Rattle.std.proofs.Common.{◌≡◌, Result, Ok, Err}
 use Rattle.std.specs.Result.{IfOk, MatchResult, is_ok}
 
 -- the value of an `Ok` stays when the error is changed

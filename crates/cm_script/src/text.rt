@@ -86,7 +86,7 @@ fn push_answer(row: &mut ByteRecord, reply: &Reply) -> Result<(), NoMemory>
     }
 }
 
-// What a report has a record of.
+// What a record of a report is made from.
 trait Record {
     ghost fields: { Self → List (List ℕ) };
 

@@ -1,7 +1,6 @@
 -- One more record is written.
-use Rattle.std.proofs.Common.{◌≡◌, ◌++◌, ◌∙◌, ◌∷◌, [], ap, sym, take, map}
-use Rattle.std.proofs.lemmas.List.{append-nil, map_more}
-use Rattle.csv.specs.Writing.{default_writer, row_text, text_written}
+use Rattle.std.proofs.Common.{sym}
+use Rattle.std.proofs.lemmas.List.{append-nil}
 use Rattle.cm_script.specs.Rows.{text_of_rows}
 use Rattle.cm_script.proofs.RowTexts.{text_of_rows-more}
 use Rattle.cm_script.proofs.text.write_all.Goals as goal

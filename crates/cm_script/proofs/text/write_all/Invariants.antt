@@ -1,5 +1,5 @@
 -- The text of the records so far has been written, and the writer stands between two records.
-use Rattle.std.proofs.Common.{◌≡◌, ◌++◌, Some, true, false, map, take}
+use Rattle.std.proofs.Common.{◌≡◌, Some, true, false, map, take}
 use Rattle.std.specs.Io.KnownBytes.{Appends}
 use Rattle.csv.specs.Writing.{default_writer, fields_written, has_written, text_written, with_flexible, writer_setup}
 use Rattle.cm_script.specs.Rows.{text_of_rows}
