@@ -4,9 +4,13 @@
 mod line;
 mod report;
 mod stop;
+#[cfg(test)]
+mod tests_render;
+mod text;
 mod verb;
 
 pub use line::{Line, Script};
 pub use report::Report;
 pub use stop::{LineCause, ScriptStop};
+pub use text::render;
 pub use verb::Verb;
