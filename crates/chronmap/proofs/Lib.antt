@@ -1,1 +1,4 @@
 pub mod Regrant
+pub mod Histories
+pub mod Answering
+pub mod Explaining

@@ -3,3 +3,4 @@ pub mod Told
 pub mod Words
 pub mod Statuses
 pub mod Served
+pub mod Runs

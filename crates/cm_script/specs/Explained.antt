@@ -24,9 +24,9 @@ Numbered = ℕ × Line
 
 -- the records of one caller, and those of all callers, caller after caller
 abbrev pub records_of_caller : List Line → ℕ → List Numbered
-records_of_caller script caller = filter (λ record'. record'.1.caller == caller) (enumerate_from 1 script)
+records_of_caller script caller = filter (λ asked. asked.1.caller == caller) (enumerate_from 1 script)
 
-abbrev pub records_by_caller : List Line → List Numbered
+unfoldable pub records_by_caller : List Line → List Numbered
 records_by_caller script = flat_map (records_of_caller script) (range_with_len 0 64)
 
 -- a receipt is of a record, with this part

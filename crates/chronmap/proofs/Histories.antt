@@ -1,0 +1,212 @@
+-- The history of a segment whose operations are answered one after the other.
+use Rattle.std.proofs.Common.{◌≡◌, ◌≢◌, ◌∙◌, ℕ, ◌+◌, ◌-◌, ◌<◌, ◌≤◌, Bool, true, false, inl, inr, List, [], ◌∷◌, ◌++◌, length, map, filter, get_or, All, ap, cond, refl, sym, subst, arith, zero, suc}
+use Rattle.std.specs.List.{AllPairs, range_with_len}
+use Rattle.std.proofs.lemmas.Bool.{cases_Bool}
+use Rattle.std.proofs.lemmas.List.{append-nil, get_or_append_left, get_or_push, length_push, map-append, append_assoc}
+use Rattle.std.proofs.lemmas.List.Elements.{All-push, All-weaker, filter-append}
+use Rattle.std.proofs.lemmas.List.Quantifiers.{all_pairs_push}
+use Rattle.std.proofs.lemmas.List.Sorted.{IsPermutation-refl}
+use Rattle.std.specs.List.Sorted.{IsPermutation}
+use Rattle.cm_geo.specs.declared.geo.Geo.{Geo}
+use Rattle.cm_plain.specs.declared.op.Op.{Op}
+use Rattle.cm_plain.specs.declared.reply.Reply.{Reply}
+use Rattle.cm_plain.specs.declared.reply.Reply.TheVariants as reply
+use Rattle.cm_plain.specs.declared.receipt.Receipt.{Receipt}
+use Rattle.cm_plain.specs.States.{State, one_tier}
+use Rattle.cm_plain.specs.Steps.{Step, is_change}
+use Rattle.cm_plain.specs.History.{Call, IsAnswerOf, IsChangeOf, IsIn, KeepsOrder, Legal, changes, granted}
+use Rattle.cm_plain.specs.Segments.{Answered, Segment}
+use Rattle.chronmap.proofs.Regrant.{as_granted, unchanged_state}
+
+-- the state after so many changes
+abbrev pub state_at : List State → ℕ → State
+state_at hist i = get_or hist i one_tier
+
+-- how many calls changed the segment
+abbrev pub count : List Call → ℕ
+count calls = length (filter changes calls)
+
+-- a call in a history that is written down state after state
+abbrev pub Stands : Geo → List State → Bool → Call → Type 0
+Stands geo hist true call =
+    (i : ℕ) × (i + 1 < length hist) × (call.receipt.number ≡ 0 + i + 1) × Step geo 0 (state_at hist i) (0 + i) true call.op (state_at hist (i + 1)) call.receipt.reply
+Stands geo hist false call =
+    (i : ℕ) × (i < length hist) × (call.receipt.number ≡ 0 + i) × Step geo 0 (state_at hist i) (0 + i) (granted call.receipt.reply) call.op (state_at hist i) call.receipt.reply
+
+-- what was answered so far is a history that leads to the segment as it is now
+pub record History (geo : Geo) (calls : List Call) (hist : List State) (now : Segment) : Type 0 where
+  pub geo_is : now.geo ≡ geo
+  pub segment_is : now.segment ≡ 0
+  pub long : length hist ≡ count calls + 1
+  pub first : state_at hist 0 ≡ one_tier
+  pub last : state_at hist (count calls) ≡ now.state
+  pub number_is : now.number ≡ count calls
+  pub numbers : map (λ call. call.receipt.number) (filter changes calls) ≡ range_with_len (0 + 1) (count calls)
+  pub steps : All (λ call. Stands geo hist (changes call) call) calls
+  pub below : All (λ call. call.receipt.number ≤ now.number) calls
+  pub in_order : AllPairs KeepsOrder calls
+
+-- nothing was answered yet
+pub begins : (geo : Geo) (now : Segment) → now.geo ≡ geo → now.segment ≡ 0 → now.number ≡ 0 → now.state ≡ one_tier → History geo [] (one_tier ∷ []) now
+begins geo now geo_is segment_is number_is state_is = record {
+  geo_is = geo_is;
+  segment_is = segment_is;
+  long = refl;
+  first = refl;
+  last = sym state_is;
+  number_is = number_is;
+  numbers = refl;
+  steps = λ k d h. absurd (omega arith);
+  below = λ k d h. absurd (omega arith);
+  in_order = λ i j d h k. absurd (omega arith);
+}
+
+-- a range with its next number
+range_more : (low n : ℕ) → range_with_len low (n + 1) ≡ range_with_len low n ++ (low + n) ∷ []
+range_more low zero = let e : low + 0 ≡ low = omega arith in rw e refl
+range_more low (suc n) =
+    let e : suc n + 1 ≡ suc (n + 1) = omega arith in
+    let f : low + suc n ≡ low + 1 + n = omega arith in
+    rw (e, f) (ap (λ (xs : List ℕ). low ∷ xs) (range_more (low + 1) n))
+
+-- a history with one more state keeps its calls
+stands_longer : (geo : Geo) (hist : List State) (next : State) (changed : Bool) (call : Call) → Stands geo hist changed call → Stands geo (hist ++ next ∷ []) changed call
+stands_longer geo hist next true call h =
+    let here : state_at (hist ++ next ∷ []) h.0 ≡ state_at hist h.0 = get_or_append_left hist (next ∷ []) one_tier h.0 (omega (arith, h.1)) in
+    let then : state_at (hist ++ next ∷ []) (h.0 + 1) ≡ state_at hist (h.0 + 1) = get_or_append_left hist (next ∷ []) one_tier (h.0 + 1) h.1 in
+    (h.0, omega (arith, h.1, length_push hist next), h.2, rw (here, then) h.3)
+stands_longer geo hist next false call h =
+    let here : state_at (hist ++ next ∷ []) h.0 ≡ state_at hist h.0 = get_or_append_left hist (next ∷ []) one_tier h.0 h.1 in
+    (h.0, omega (arith, h.1, length_push hist next), h.2, rw here h.3)
+
+granted_change : (answer : Reply) → is_change answer ≡ true → granted answer ≡ true
+granted_change reply.FullSpent e = cc e
+granted_change reply.New e = refl
+granted_change reply.Replaced e = refl
+granted_change reply.Removed e = refl
+granted_change (reply.Swept key) e = refl
+granted_change (reply.Kept value) e = refl
+granted_change reply.Missing e = refl
+granted_change reply.Differs e = refl
+granted_change (reply.Value value) e = refl
+granted_change reply.FullChain e = refl
+granted_change reply.Worn e = refl
+granted_change (reply.Count n) e = refl
+granted_change (reply.Pairs pairs) e = refl
+granted_change reply.SweptAll e = refl
+
+-- the calls that change something, with one more
+kept_change : (calls : List Call) (call : Call) → changes call ≡ true → filter changes (calls ++ call ∷ []) ≡ filter changes calls ++ call ∷ []
+kept_change calls call e = filter-append changes calls (call ∷ []) ∙ rw e refl
+
+kept_other : (calls : List Call) (call : Call) → changes call ≡ false → filter changes (calls ++ call ∷ []) ≡ filter changes calls
+kept_other calls call e = filter-append changes calls (call ∷ []) ∙ rw e (append-nil (filter changes calls))
+
+stands_as : (geo : Geo) (hist : List State) (changed : Bool) (call : Call) → changes call ≡ changed → Stands geo hist changed call → Stands geo hist (changes call) call
+stands_as geo hist changed call e h = subst (λ (b : Bool). Stands geo hist b call) (sym e) h
+
+-- a call is answered with this number, by this reply
+pub record IsCallOf (call : Call) (op : Op) (answer : Reply) (number : ℕ) : Type 0 where
+  pub op_is : call.op ≡ op
+  pub reply_is : call.receipt.reply ≡ answer
+  pub number_is : call.receipt.number ≡ number
+
+abbrev number_of : Call → ℕ
+number_of call = call.receipt.number
+
+-- one more call that changes the segment
+pub more_change : (geo : Geo) (calls : List Call) (hist : List State) (old new : Segment) (call : Call) → History geo calls hist old
+    → Answered old new false call.op call.receipt.reply → call.receipt.number ≡ new.number → changes call ≡ true → History geo (calls ++ call ∷ []) (hist ++ new.state ∷ []) new
+more_change geo calls hist old new call h answered number_is changed =
+    let n = count calls in
+    let kept = kept_change calls call changed in
+    let counted : count (calls ++ call ∷ []) ≡ n + 1 = ap length kept ∙ length_push (filter changes calls) call in
+    let raised : new.number ≡ n + 1 = (rw changed at answered.number_is) ∙ ap (λ (k : ℕ). k + 1) h.number_is in
+    let at_last : state_at (hist ++ new.state ∷ []) (n + 1) ≡ new.state = get_or_push hist new.state one_tier (n + 1) h.long in
+    let at_prior : state_at (hist ++ new.state ∷ []) n ≡ old.state = get_or_append_left hist (new.state ∷ []) one_tier n (omega (arith, h.long)) ∙ h.last in
+    let at_first : state_at (hist ++ new.state ∷ []) 0 ≡ one_tier = get_or_append_left hist (new.state ∷ []) one_tier 0 (omega (arith, h.long)) ∙ h.first in
+    let step : Step geo 0 old.state n true call.op new.state call.receipt.reply =
+    rw (granted_change call.receipt.reply changed) at (as_granted geo 0 old.state n call.op new.state call.receipt.reply (rw (h.geo_is, h.segment_is, h.number_is) at answered.step)) in
+    let stands : Stands geo (hist ++ new.state ∷ []) true call =
+    (n, omega (arith, h.long, length_push hist new.state), number_is ∙ raised ∙ zero_front n, rw (at_prior, at_last, zero_left n) step) in
+    record {
+      geo_is = answered.geo_same ∙ h.geo_is;
+      segment_is = answered.segment_same ∙ h.segment_is;
+      long = omega (arith, h.long, length_push hist new.state, counted);
+      first = at_first;
+      last = rw counted at_last;
+      number_is = raised ∙ sym counted;
+      numbers = ap (map number_of) kept ∙ map-append number_of (filter changes calls) (call ∷ []) ∙ ap (λ (xs : List ℕ). xs ++ call.receipt.number ∷ []) h.numbers
+          ∙ ap (λ (k : ℕ). range_with_len 1 n ++ k ∷ []) (number_is ∙ raised ∙ one_front n) ∙ sym (range_more 1 n) ∙ ap (range_with_len 1) (sym counted);
+      steps = All-push (λ it. Stands geo (hist ++ new.state ∷ []) (changes it) it) calls call
+          (All-weaker (λ it. Stands geo hist (changes it) it) (λ it. Stands geo (hist ++ new.state ∷ []) (changes it) it) (λ it s. stands_longer geo hist new.state (changes it) it s) calls h.steps)
+          (stands_as geo (hist ++ new.state ∷ []) true call changed stands);
+      below = All-push (λ it. it.receipt.number ≤ new.number) calls call (All-weaker (λ it. it.receipt.number ≤ old.number) (λ it. it.receipt.number ≤ new.number) (λ it k. omega (arith, k, raised, h.number_is)) calls h.below) (omega (arith, number_is));
+      in_order = all_pairs_push KeepsOrder calls call h.in_order (λ k d inside same. (omega (arith, h.below k d inside, number_is, raised, h.number_is), λ e. omega (arith, h.below k d inside, number_is, raised, h.number_is)));
+    }
+  where
+    one_front : (n : ℕ) → n + 1 ≡ 1 + n
+    one_front n = omega arith
+
+    zero_front : (n : ℕ) → n + 1 ≡ 0 + n + 1
+    zero_front n = omega arith
+
+    zero_left : (n : ℕ) → 0 + n ≡ n
+    zero_left n = omega arith
+
+-- one more call that changes nothing
+pub more_other : (geo : Geo) (calls : List Call) (hist : List State) (old new : Segment) (call : Call) → History geo calls hist old
+    → Answered old new false call.op call.receipt.reply → call.receipt.number ≡ new.number → changes call ≡ false → History geo (calls ++ call ∷ []) hist new
+more_other geo calls hist old new call h answered number_is still =
+    let n = count calls in
+    let kept = kept_other calls call still in
+    let counted : count (calls ++ call ∷ []) ≡ n = ap length kept in
+    let same : new.number ≡ n = (rw still at answered.number_is) ∙ h.number_is in
+    let state_same : new.state ≡ old.state = unchanged_state old.geo old.segment old.state old.number false call.op new.state call.receipt.reply still answered.step in
+    let at_last : state_at hist n ≡ old.state = h.last in
+    let step : Step geo 0 old.state n (granted call.receipt.reply) call.op old.state call.receipt.reply =
+    as_granted geo 0 old.state n call.op old.state call.receipt.reply (rw (h.geo_is, h.segment_is, h.number_is, state_same) at answered.step) in
+    let stands : Stands geo hist false call = (n, omega (arith, h.long), number_is ∙ same ∙ zero_front n, rw (at_last, zero_left n) step) in
+    record {
+      geo_is = answered.geo_same ∙ h.geo_is;
+      segment_is = answered.segment_same ∙ h.segment_is;
+      long = h.long ∙ ap (λ (k : ℕ). k + 1) (sym counted);
+      first = h.first;
+      last = rw counted (at_last ∙ sym state_same);
+      number_is = same ∙ sym counted;
+      numbers = rw kept h.numbers;
+      steps = All-push (λ it. Stands geo hist (changes it) it) calls call h.steps (stands_as geo hist false call still stands);
+      below = All-push (λ it. it.receipt.number ≤ new.number) calls call (All-weaker (λ it. it.receipt.number ≤ old.number) (λ it. it.receipt.number ≤ new.number) (λ it k. omega (arith, k, same, h.number_is)) calls h.below) (omega (arith, number_is));
+      in_order = all_pairs_push KeepsOrder calls call h.in_order (λ k d inside same'. (omega (arith, h.below k d inside, number_is, same, h.number_is), λ e. absurd (let f : true ≡ false = sym e ∙ still in cc f)));
+    }
+  where
+    zero_front : (n : ℕ) → n ≡ 0 + n
+    zero_front n = omega arith
+
+    zero_left : (n : ℕ) → 0 + n ≡ n
+    zero_left n = omega arith
+
+-- one more call
+pub record More (geo : Geo) (calls : List Call) (now : Segment) : Type 0 where
+  pub hist : List State
+  pub history : History geo calls hist now
+
+pub more : (geo : Geo) (calls : List Call) (old new : Segment) (call : Call) → More geo calls old
+    → Answered old new false call.op call.receipt.reply → call.receipt.number ≡ new.number → More geo (calls ++ call ∷ []) new
+more geo calls old new call m answered number_is = elim (cases_Bool (changes call)) [
+  | inl changed ↦ record { hist = m.hist ++ new.state ∷ []; history = more_change geo calls m.hist old new call m.history answered number_is changed }
+  | inr still ↦ record { hist = m.hist; history = more_other geo calls m.hist old new call m.history answered number_is still }
+]
+
+is_in : (geo : Geo) (hist : List State) (most : ℕ) (changed : Bool) (call : Call) → length hist ≡ most + 1 → Stands geo hist changed call → IsIn geo 0 0 (state_at hist) most changed call
+is_in geo hist most true call long h = (h.0, h.2, h.3)
+is_in geo hist most false call long h = (h.0, omega (arith, h.1), h.2, h.3)
+
+-- what was answered is a legal history
+pub is_legal : (geo : Geo) (calls : List Call) (hist : List State) (now : Segment) → History geo calls hist now → Legal geo 0 one_tier 0 (state_at hist) calls
+is_legal geo calls hist now h = record {
+  numbers = subst (λ (ns : List ℕ). IsPermutation (range_with_len (0 + 1) (count calls)) ns) (sym h.numbers) (IsPermutation-refl (range_with_len (0 + 1) (count calls)));
+  begins = h.first;
+  steps = All-weaker (λ it. Stands geo hist (changes it) it) (λ it. IsIn geo 0 0 (state_at hist) (count calls) (changes it) it) (λ it s. is_in geo hist (count calls) (changes it) it h.long s) calls h.steps;
+  in_order = h.in_order;
+}
