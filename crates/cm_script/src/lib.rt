@@ -2,7 +2,9 @@
 #![tactic(auto)]
 
 mod line;
+mod number;
 mod report;
+mod rows;
 mod stop;
 mod verb;
 
