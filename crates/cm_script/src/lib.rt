@@ -1,6 +1,7 @@
 //! Scripts and reports as CSV: the lines of a script's bytes, and the text of a report.
 #![tactic(auto)]
 
+mod arguments;
 mod line;
 mod number;
 mod report;
