@@ -4,6 +4,7 @@
 mod arguments;
 mod line;
 mod number;
+mod read;
 mod report;
 mod rows;
 mod stop;
