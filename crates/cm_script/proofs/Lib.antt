@@ -1,3 +1,4 @@
 pub mod Decimals
 pub mod AllRecords
 pub mod Exits
+pub mod Lines

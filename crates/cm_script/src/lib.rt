@@ -11,6 +11,7 @@ mod stop;
 mod verb;
 
 pub use line::{Line, Script};
+pub use read::read_script;
 pub use report::Report;
 pub use stop::{LineCause, ScriptStop};
 pub use verb::Verb;
