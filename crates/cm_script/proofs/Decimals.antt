@@ -62,7 +62,7 @@ pub not-number : (limit number : ℕ) (text : List ℕ) → limit ≤ 2 ^ 32 →
     → (number < limit → decimal number ≡ text → ⊥) → number_below limit text ≡ None
 not-number limit number text fits parsed other =
     no-number limit text (λ read less same.
-      let parse : Result ℕ ℕ = Ok number in
-      let results : parse ≡ Ok read = parse-decimal 32 read text (Ok number) (omega arith) (omega arith) same parsed in
-      let numbers : number ≡ read = cc results in
-      other (omega arith) (ap decimal numbers ∙ sym same))
+    let parse : Result ℕ ℕ = Ok number in
+    let results : parse ≡ Ok read = parse-decimal 32 read text (Ok number) (omega arith) (omega arith) same parsed in
+    let numbers : number ≡ read = cc results in
+    other (omega arith) (ap decimal numbers ∙ sym same))

@@ -8,6 +8,8 @@ mod read;
 mod report;
 mod rows;
 mod stop;
+#[cfg(test)]
+mod tests_read;
 mod verb;
 
 pub use line::{Line, Script};

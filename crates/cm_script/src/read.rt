@@ -74,12 +74,7 @@ fn is_built(line: &Line) -> bool
 }
 
 // The same of a record that asks for what is built.
-fn built_line_of(
-    alloc: Global,
-    geo: &Geo,
-    lists: u32,
-    row: &ByteRecord,
-) -> Result<Line, LineStop>
+fn built_line_of(alloc: Global, geo: &Geo, lists: u32, row: &ByteRecord) -> Result<Line, LineStop>
     ensures ok { IfOk result (λ line. built (line_of geo.now lists (fields_of row.now)) ≡ Ok line) }
     ensures err { IfErr result (λ stop. (cause : LineCause) → stop ≡ LineStop.Refused cause → built (line_of geo.now lists (fields_of row.now)) ≡ Err cause) }
 {

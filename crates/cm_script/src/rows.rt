@@ -51,7 +51,7 @@ pub(crate) fn fields_of_row<'a>(
 ) -> Result<Vec<&'a [u8]>, NoMemory>
     ensures { IfOk result (λ v. map (λ f. f.now) v.items ≡ fields_of row.entry.now) }
 {
-    let mut fields = Vec::new(alloc);
+    let mut fields = Vec::with_capacity(alloc, row.len())?;
     for i in 0..row.len() {
         let Some(field) = row.get(i) else {
             unreachable!();

@@ -22,9 +22,9 @@ pub returns-else-number-limit : goal.returns-else-number-limit
 returns-else-number-limit c =
     let parsed = rw c.in-Ok.ensures.cases.0 at c.in-Ok-parse.ensures.value.0 in
     sym (not-number c.args.limit c.in-Ok-parse.number c.args.text.now (omega arith) parsed (λ less same.
-      elim c.else-number-limit.branch [
-        | else-number-limit-via-then-number-limit+else-eq w ↦ 
-            let hit = (bytes_eq-Decides w.as_bytes.result.now c.args.text.now).1 (w.as_bytes.ensures.value ∙ w.format.ensures.text ∙ same) in
-            cc (w.if-eq.ensures, hit)
-        | else-number-limit-via-else-number-limit w ↦ omega arith
-      ]))
+    elim c.else-number-limit.branch [
+      | else-number-limit-via-then-number-limit+else-eq w ↦
+          let hit = (bytes_eq-Decides w.as_bytes.result.now c.args.text.now).1 (w.as_bytes.ensures.value ∙ w.format.ensures.text ∙ same) in
+          cc (w.if-eq.ensures, hit)
+      | else-number-limit-via-else-number-limit w ↦ omega arith
+    ]))
