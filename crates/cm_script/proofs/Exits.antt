@@ -1,7 +1,7 @@
 -- What a function returns at the exit of a `?`, and where no pattern fits.
-use Rattle.std.specs.Prelude.{◌≡◌, ◌≤◌, ℕ, List, [], ◌∷◌, length, Result, Ok, Err, IfErr}
+use Rattle.std.specs.Prelude.{◌≡◌, ◌≤◌, ℕ, List, [], ◌∷◌, length, Result, Err, IfErr}
 use Rattle.std.specs.Result.{IsErrAnd}
-use Rattle.std.proofs.Common.{arith, refl, subst, sym, ◌∙◌}
+use Rattle.std.proofs.Common.{arith, refl}
 use Rattle.std.proofs.lemmas.Result.{err_from_is_err_and}
 use Rattle.cm_geo.specs.declared.geo.Geo.{Geo}
 use Rattle.cm_script.specs.declared.stop.LineCause.TheVariants as cause

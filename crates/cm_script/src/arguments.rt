@@ -1,10 +1,10 @@
 //! The operation of a record's word and the fields behind it.
 
-ghost use Rattle.std.specs.Prelude.{◌≡◌, ◌||◌, IfErr, IfOk, Result, [], ◌∷◌, map};
+ghost use Rattle.std.specs.Prelude.{◌≡◌, ◌||◌, ℕ, IfErr, IfOk, OnOk, Result, [], ◌∷◌, map};
 ghost use Rattle.cm_plain.specs.declared.op.Op.{Op};
 ghost use Rattle.cm_script.specs.Numbers.{number_below};
 ghost use Rattle.cm_script.specs.declared.stop.LineCause.{LineCause};
-ghost use Rattle.cm_script.specs.Scripts.{is_empty, is_large, is_long_key, is_long_value, keyed, op_of, unless, written};
+ghost use Rattle.cm_script.specs.Scripts.{in_segment, is_empty, is_large, is_long_key, is_long_value, keyed, op_of, unless, written};
 
 use crate::number::number_below;
 use crate::stop::LineCause;
@@ -46,18 +46,27 @@ fn is_too_large(geo: &Geo, key: &[u8], value: &[u8]) -> bool
         || geo.need(key.len() as u32, value.len() as u32) > MOST_CHUNKS
 }
 
+// Refuses a key that is empty, and otherwise one with something too large about it.
+fn check_key(key: &[u8], is_too_large: bool) -> Result<(), LineStop>
+    ensures ok { OnOk result ((later : Result Op LineCause) → unless (is_empty key.now) LineCause.Argument (unless is_too_large LineCause.TooLarge later) ≡ later) }
+    ensures err { IfErr result (λ stop. (cause : LineCause) → stop ≡ LineStop.Refused cause → (later : Result Op LineCause) → unless (is_empty key.now) LineCause.Argument (unless is_too_large LineCause.TooLarge later) ≡ Err cause) }
+{
+    if key.is_empty() {
+        return Err(LineStop::Refused(LineCause::Argument));
+    }
+    if is_too_large {
+        return Err(LineStop::Refused(LineCause::TooLarge));
+    }
+    Ok(())
+}
+
 // A copy of a key.
 fn key_of(alloc: Global, key: &[u8]) -> Result<Bytes, LineStop>
     ensures copy { IfOk result (λ copy. copy ≡ key.now) }
     ensures ok { IfOk result (λ copy. (asked : Op) → keyed key.now asked ≡ Ok asked) }
     ensures err { IfErr result (λ stop. (cause : LineCause) → stop ≡ LineStop.Refused cause → (asked : Op) → keyed key.now asked ≡ Err cause) }
 {
-    if key.is_empty() {
-        return Err(LineStop::Refused(LineCause::Argument));
-    }
-    if key.len() > LONGEST_KEY {
-        return Err(LineStop::Refused(LineCause::TooLarge));
-    }
+    check_key(key, key.len() > LONGEST_KEY)?;
     Ok(Bytes::of(alloc, key)?)
 }
 
@@ -67,12 +76,7 @@ fn entry_of(alloc: Global, geo: &Geo, key: &[u8], value: &[u8]) -> Result<(Bytes
     ensures ok { IfOk result (λ copies. (asked : Op) → written geo.now key.now value.now asked ≡ Ok asked) }
     ensures err { IfErr result (λ stop. (cause : LineCause) → stop ≡ LineStop.Refused cause → (asked : Op) → written geo.now key.now value.now asked ≡ Err cause) }
 {
-    if key.is_empty() {
-        return Err(LineStop::Refused(LineCause::Argument));
-    }
-    if is_too_large(geo, key, value) {
-        return Err(LineStop::Refused(LineCause::TooLarge));
-    }
+    check_key(key, is_too_large(geo, key, value))?;
     Ok((Bytes::of(alloc, key)?, Bytes::of(alloc, value)?))
 }
 
@@ -82,23 +86,19 @@ fn expected_of(alloc: Global, key: &[u8], expected: &[u8]) -> Result<Bytes, Line
     ensures ok { IfOk result (λ copy. (later : Result Op LineCause) → unless (is_empty key.now) LineCause.Argument (unless (is_long_value expected.now) LineCause.TooLarge later) ≡ later) }
     ensures err { IfErr result (λ stop. (cause : LineCause) → stop ≡ LineStop.Refused cause → (later : Result Op LineCause) → unless (is_empty key.now) LineCause.Argument (unless (is_long_value expected.now) LineCause.TooLarge later) ≡ Err cause) }
 {
-    if key.is_empty() {
-        return Err(LineStop::Refused(LineCause::Argument));
-    }
-    if expected.len() > LONGEST_VALUE {
-        return Err(LineStop::Refused(LineCause::TooLarge));
-    }
+    check_key(key, expected.len() > LONGEST_VALUE)?;
     Ok(Bytes::of(alloc, expected)?)
 }
 
-// The segment that a field names.
-fn segment_of(geo: &Geo, text: &[u8]) -> Result<u32, LineStop>
-    ensures ok { IfOk result (λ segment. number_below geo.now.segments text.now ≡ Some segment) }
-    ensures err { IfErr result (λ stop. (stop ≡ LineStop.Refused LineCause.Argument) × (number_below geo.now.segments text.now ≡ None)) }
+// The segment that a field names, unless something else is too large.
+fn segment_of(geo: &Geo, text: &[u8], is_too_large: bool) -> Result<u32, LineStop>
+    ensures ok { IfOk result (λ segment. (asked : ℕ → Op) → in_segment (number_below geo.now.segments text.now) asked is_too_large ≡ Ok (asked segment)) }
+    ensures err { IfErr result (λ stop. (cause : LineCause) → stop ≡ LineStop.Refused cause → (asked : ℕ → Op) → in_segment (number_below geo.now.segments text.now) asked is_too_large ≡ Err cause) }
 {
     match number_below(geo.segments, text) {
-        Some(segment) => Ok(segment),
         None => Err(LineStop::Refused(LineCause::Argument)),
+        Some(_) if is_too_large => Err(LineStop::Refused(LineCause::TooLarge)),
+        Some(segment) => Ok(segment),
     }
 }
 
@@ -121,15 +121,11 @@ fn op_of_one(
             key: key_of(alloc, argument)?,
         }),
         Verb::Count => Ok(Op::Count {
-            segment: segment_of(geo, argument)?,
+            segment: segment_of(geo, argument, false)?,
         }),
-        Verb::List => {
-            let segment = segment_of(geo, argument)?;
-            if lists >= MOST_LISTS {
-                return Err(LineStop::Refused(LineCause::TooLarge));
-            }
-            Ok(Op::List { segment })
-        }
+        Verb::List => Ok(Op::List {
+            segment: segment_of(geo, argument, lists >= MOST_LISTS)?,
+        }),
         _ => Err(LineStop::Refused(LineCause::Argument)),
     }
 }
@@ -165,10 +161,7 @@ fn op_of_two(
             Ok(Op::RemoveIf { key, expected })
         }
         Verb::Sweep => {
-            let segment = segment_of(geo, first)?;
-            if second.len() > LONGEST_KEY {
-                return Err(LineStop::Refused(LineCause::TooLarge));
-            }
+            let segment = segment_of(geo, first, second.len() > LONGEST_KEY)?;
             let prefix = Bytes::of(alloc, second)?;
             Ok(Op::Sweep { segment, prefix })
         }

@@ -1,4 +1,4 @@
--- Where a key or a value is refused, so is the operation.
+-- Where a key, a value or the segment is refused, so is the operation.
 use Rattle.cm_script.proofs.Exits.{at-exit}
 use Rattle.cm_script.proofs.arguments.op_of_two.Goals as goal
 
@@ -21,3 +21,7 @@ returns-in_err-expected-in-RemoveIf-clause-err c =
 pub returns-in_err-key-in-RemoveIf-clause-err : goal.returns-in_err-key-in-RemoveIf-clause-err
 returns-in_err-key-in-RemoveIf-clause-err c =
     at-exit _ _ c.from_residual-in_err-key-in-RemoveIf.ensures.1 (rw (c.in-RemoveIf.is, c.in_ok-expected-in-RemoveIf.ensures.ok _) (λ cause same. c.in_err-key-in-RemoveIf.ensures.err cause same _))
+
+pub returns-in_err-segment-in-Sweep-clause-err : goal.returns-in_err-segment-in-Sweep-clause-err
+returns-in_err-segment-in-Sweep-clause-err c =
+    at-exit _ _ c.from_residual-in_err-segment-in-Sweep.ensures.1 (rw (c.in-Sweep.is) (λ cause same. c.in_err-segment-in-Sweep.ensures.err cause same _))

@@ -1,5 +1,5 @@
 -- What `parse` reads of the text is the number, where the number's own text is this text.
-use Rattle.std.proofs.Common.{arith, sym, ◌∙◌, List, ℕ}
+use Rattle.std.proofs.Common.{arith, sym, ◌∙◌}
 use Rattle.std.proofs.lemmas.Slice.Eq.{bytes_eq-Decides}
 use Rattle.cm_script.proofs.Decimals.{not-number, not-parsed, not-text, number-found}
 use Rattle.cm_script.proofs.number.number_below.Goals as goal

@@ -1,5 +1,5 @@
 -- The lines so far and those of the records to come are the script.
-use Rattle.std.proofs.Common.{◌≡◌, ◌≤◌, ◌+◌, drop, length, map, vec_len}
+use Rattle.std.proofs.Common.{◌≡◌, ◌≤◌, ◌+◌, drop, map, vec_len}
 use Rattle.csv.specs.Records.{fields_of}
 use Rattle.cm_script.specs.Scripts.{lines_from}
 use Rattle.cm_script.proofs.Lines.{after}

@@ -1,5 +1,5 @@
 -- Each turn reads one record more, and at the end of the text these are all.
-use Rattle.std.proofs.Common.{Bor, List, ℕ, ◌≡◌, ◌∙◌, ◌++◌, ◌<◌, sym, refl, rules, inl, inr, false, true, map, Some, ◌∷◌, [], ap, length, ◌+◌, arith}
+use Rattle.std.proofs.Common.{Bor, List, ℕ, ◌≡◌, ◌∙◌, ◌++◌, sym, refl, rules, inl, inr, false, true, map, Some, ◌∷◌, [], ap, length, ◌+◌, arith}
 use Rattle.csv.specs.Reading.{with_flexible, with_names_headers}
 use Rattle.csv.specs.declared.reader.ReaderBuilder.{ReaderBuilder}
 use Rattle.std.specs.Result.{is_ok}
