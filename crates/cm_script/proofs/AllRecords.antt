@@ -1,4 +1,4 @@
--- All the records that were reached are `records`.
+-- The records that a reader reached are a front of `records`, and all of them where it is at the end.
 use Rattle.std.specs.Prelude.{Some, None}
 use Rattle.std.proofs.Common.{◌≡◌, ◌<◌, ◌≤◌, [], ◌∷◌, ℕ, List, true, false, length, refl, subst, suc, zero, arith, inl, inr, ◌==◌, ◌++◌}
 use Rattle.std.proofs.lemmas.Bool.{cases_Bool}
@@ -7,6 +7,7 @@ use Rattle.csv.specs.Reading.{Reached, records_from, default_config}
 use Rattle.csv.specs.declared.parser.State.{State}
 use Rattle.csv.specs.declared.parser.State.TheVariants as st
 
+-- equal answers have equal values
 some-same : {A : Type 0} {a b : A} → Some a ≡ Some b → a ≡ b
 some-same e = cc e
 
@@ -15,6 +16,7 @@ nothing-left : (s : State) (p : Read) → ends_at_end s ≡ false → next_recor
 unfolding next_record
 nothing-left s p q e = let h = rw q at e in cc h
 
+-- where a byte ends a record, the end of the text behind it is no record: inside a field
 in-field-end : (c : ℕ) → is_end (in_field default_config c).1 ≡ true → ends_at_end (in_field default_config c).0 ≡ false
 in-field-end c h = elim (cases_Bool (c == 44)) [
   | inl a ↦ let h2 = rw a at h in cc h2
@@ -27,12 +29,14 @@ in-field-end c h = elim (cases_Bool (c == 44)) [
   ]
 ]
 
+-- the same where a field starts
 start-field-end : (c : ℕ) → is_end (start_field default_config c).1 ≡ true → ends_at_end (start_field default_config c).0 ≡ false
 start-field-end c h = elim (cases_Bool (c == 34)) [
   | inl a ↦ let h2 = rw a at h in cc h2
   | inr a ↦ rw a (in-field-end c (rw a at h))
 ]
 
+-- the same where a record starts
 start-record-end : (c : ℕ) → is_end (start_record default_config c).1 ≡ true → ends_at_end (start_record default_config c).0 ≡ false
 start-record-end c h = elim (cases_Bool (c == 13)) [
   | inl a ↦ rw a refl
@@ -45,6 +49,7 @@ start-record-end c h = elim (cases_Bool (c == 13)) [
   ]
 ]
 
+-- the same in any state
 pub step-end : (s : State) (c : ℕ) → is_end (step default_config s c).1 ≡ true → ends_at_end (step default_config s c).0 ≡ false
 step-end st.StartRecord c h = start-record-end c h
 step-end st.StartField c h = start-field-end c h
@@ -103,6 +108,7 @@ next-less s c rest p e = elim (cases_Bool (is_end (step default_config s c).1)) 
   | inr a ↦ next-any (step default_config s c).0 _ _ rest p (rw a at e)
 ]
 
+-- at the end of the text, the records that were reached are all of them
 pub all-records : (n : ℕ) (s : State) (xs : List ℕ) (rows : List (List (List ℕ))) (s2 : State) (ys : List ℕ) → ends_at_end s ≡ false → length xs < n
     → Reached default_config s xs rows s2 ys → next_record default_config s2 [] [] ys ≡ None → rows ≡ records_from default_config n s xs
 unfolding Reached records_from

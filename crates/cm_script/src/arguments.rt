@@ -134,13 +134,12 @@ fn op_of_one(
 fn op_of_two(
     alloc: Global,
     geo: &Geo,
-    lists: u32,
     verb: Verb,
     first: &[u8],
     second: &[u8],
 ) -> Result<Op, LineStop>
-    ensures ok { IfOk result (λ asked. op_of geo.now lists verb (first.now ∷ second.now ∷ []) ≡ Ok asked) }
-    ensures err { IfErr result (λ stop. (cause : LineCause) → stop ≡ LineStop.Refused cause → op_of geo.now lists verb (first.now ∷ second.now ∷ []) ≡ Err cause) }
+    ensures ok { (lists : ℕ) → IfOk result (λ asked. op_of geo.now lists verb (first.now ∷ second.now ∷ []) ≡ Ok asked) }
+    ensures err { (lists : ℕ) → IfErr result (λ stop. (cause : LineCause) → stop ≡ LineStop.Refused cause → op_of geo.now lists verb (first.now ∷ second.now ∷ []) ≡ Err cause) }
 {
     match verb {
         Verb::Put => {
@@ -173,14 +172,13 @@ fn op_of_two(
 fn op_of_three(
     alloc: Global,
     geo: &Geo,
-    lists: u32,
     verb: Verb,
     first: &[u8],
     second: &[u8],
     third: &[u8],
 ) -> Result<Op, LineStop>
-    ensures ok { IfOk result (λ asked. op_of geo.now lists verb (first.now ∷ second.now ∷ third.now ∷ []) ≡ Ok asked) }
-    ensures err { IfErr result (λ stop. (cause : LineCause) → stop ≡ LineStop.Refused cause → op_of geo.now lists verb (first.now ∷ second.now ∷ third.now ∷ []) ≡ Err cause) }
+    ensures ok { (lists : ℕ) → IfOk result (λ asked. op_of geo.now lists verb (first.now ∷ second.now ∷ third.now ∷ []) ≡ Ok asked) }
+    ensures err { (lists : ℕ) → IfErr result (λ stop. (cause : LineCause) → stop ≡ LineStop.Refused cause → op_of geo.now lists verb (first.now ∷ second.now ∷ third.now ∷ []) ≡ Err cause) }
 {
     match verb {
         Verb::ReplaceIf => {
@@ -211,8 +209,8 @@ pub(crate) fn op_of(
 {
     match later {
         [] => op_of_one(alloc, geo, lists, verb, first),
-        [second] => op_of_two(alloc, geo, lists, verb, first, *second),
-        [second, third] => op_of_three(alloc, geo, lists, verb, first, *second, *third),
+        [second] => op_of_two(alloc, geo, verb, first, *second),
+        [second, third] => op_of_three(alloc, geo, verb, first, *second, *third),
         _ => Err(LineStop::Refused(LineCause::Argument)),
     }
 }

@@ -13,3 +13,7 @@ returns-in_err-key_of-in-Remove-clause-err c =
 pub returns-in_err-segment_of-in-List-clause-err : goal.returns-in_err-segment_of-in-List-clause-err
 returns-in_err-segment_of-in-List-clause-err c =
     at-exit _ _ c.from_residual-in_err-segment_of-in-List.ensures.1 (rw (c.in-List.is) (λ cause same. c.in_err-segment_of-in-List.ensures.err cause same _))
+
+pub returns-in_err-segment_of-in-Count-clause-err : goal.returns-in_err-segment_of-in-Count-clause-err
+returns-in_err-segment_of-in-Count-clause-err c =
+    at-exit _ _ c.from_residual-in_err-segment_of-in-Count.ensures.1 (rw c.in-Count.is (λ cause same. c.in_err-segment_of-in-Count.ensures.err cause same _))

@@ -1,3 +1,4 @@
+-- Each turn lends one field more, and there is a field at each index.
 use Rattle.std.proofs.Common.{◌≡◌, ◌∙◌, ◌++◌, ◌∷◌, [], ap, map, sym, take, List, ℕ, Some, None, rules, ◌<◌, length, arith}
 use Rattle.std.specs.Borrow.{Bor}
 use Rattle.std.proofs.lemmas.List.{map-append, take_more}

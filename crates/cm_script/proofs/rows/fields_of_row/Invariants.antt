@@ -1,3 +1,4 @@
+-- The fields so far are the first ones of the record.
 use Rattle.std.proofs.Common.{◌≡◌, map, take}
 use Rattle.csv.specs.Records.{fields_of}
 use Rattle.cm_script.proofs.rows.fields_of_row.Given as goal
