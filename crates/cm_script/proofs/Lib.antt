@@ -1,2 +1,7 @@
+-- The lemmas on scripts and on the text of reports.
+pub mod Decimals
+pub mod AllRecords
+pub mod Exits
+pub mod Lines
 pub mod Mapped
 pub mod RowTexts

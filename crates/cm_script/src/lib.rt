@@ -1,15 +1,22 @@
 //! Scripts and reports as CSV: the lines of a script's bytes, and the text of a report.
 #![tactic(auto)]
 
+mod arguments;
 mod line;
+mod number;
+mod read;
 mod report;
+mod rows;
 mod stop;
+#[cfg(test)]
+mod tests_read;
 #[cfg(test)]
 mod tests_render;
 mod text;
 mod verb;
 
 pub use line::{Line, Script};
+pub use read::read_script;
 pub use report::Report;
 pub use stop::{LineCause, ScriptStop};
 pub use text::render;

@@ -1,0 +1,7 @@
+-- The fields so far are the first ones of the record.
+use Rattle.std.proofs.Common.{◌≡◌, map, take}
+use Rattle.csv.specs.Records.{fields_of}
+use Rattle.cm_script.proofs.rows.fields_of_row.Given as goal
+
+abbrev pub invariant-loop-i : goal.invariant-loop-i
+invariant-loop-i l = map (λ f. f.now) l.fields.items ≡ take l.i (fields_of l.row)
