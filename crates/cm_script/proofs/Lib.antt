@@ -5,3 +5,4 @@ pub mod Exits
 pub mod Lines
 pub mod Mapped
 pub mod RowTexts
+pub mod Kept

@@ -2,7 +2,7 @@
 
 ghost use Rattle.std.specs.Prelude.{◌≡◌, ◌≢◌, ◌≤◌, ℕ, length, map, vec_len, IfErr, IfOk};
 ghost use Rattle.csv.specs.Records.{fields_of};
-ghost use Rattle.cm_script.specs.Scripts.{built, is_built, line_of, lines_from, lists_with, refused, script_of, StopsScript};
+ghost use Rattle.cm_script.specs.Scripts.{built, is_built, line_of, lines_from, lists_with, refused, script_of, StopsScript, IsFor};
 ghost use Rattle.cm_script.specs.declared.stop.LineCause.{LineCause};
 
 use crate::arguments::{LineStop, op_of};
@@ -30,6 +30,7 @@ const MOST_FIELDS: usize = 5;
 /// `LineCause`. `NoMemory` may come at any text.
 pub fn read_script(alloc: Global, bytes: &[u8], geo: &Geo) -> Result<Script, ScriptStop>
     ensures ok { IfOk result (λ s. script_of geo.now bytes.now ≡ Ok s) }
+    ensures kept { IfOk result (IsFor geo.now) }
     ensures err { IfErr result (StopsScript geo.now bytes.now) }
 {
     if bytes.len() > MOST_BYTES {
