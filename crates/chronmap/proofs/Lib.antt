@@ -1,3 +1,4 @@
+pub mod Appending
 pub mod Regrant
 pub mod Histories
 pub mod Answering

@@ -1,5 +1,6 @@
 pub mod Causes
 pub mod Told
+pub mod Stops
 pub mod Words
 pub mod Statuses
 pub mod Served
