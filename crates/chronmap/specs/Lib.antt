@@ -4,4 +4,6 @@ pub mod Stops
 pub mod Words
 pub mod Statuses
 pub mod Served
+pub mod Printed
+pub mod Refusals
 pub mod Runs
