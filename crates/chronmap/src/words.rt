@@ -1,10 +1,12 @@
 //! The words that the program takes.
 
-ghost use Rattle.std.specs.Prelude.{◌≡◌, ◌≢◌, ◌↔◌, IsTrue, MatchOption, codes};
+ghost use Rattle.std.specs.Prelude.{◌≡◌, ◌≢◌, ◌↔◌, IsTrue, IfOk, MatchOption, codes, drop, map, string_bytes};
 ghost use Rattle.chronmap.specs.Words.{run_words as the_words, Runs};
 
 use crate::word::Word;
 use cm_geo::Geo;
+use cm_plain::NoMemory;
+use std::alloc::Global;
 
 // Whether these three words run a script.
 fn are_run(command: &str, option: &str, value: &str) -> bool
@@ -31,4 +33,16 @@ pub fn geometry_of(words: &[Word]) -> Option<Geo>
         return None;
     }
     Geo::new(1, 1, 64, 4, 0).ok()
+}
+
+/// The words behind the program's name, which stands first. Takes memory.
+pub fn words_of(alloc: Global, args: &[String]) -> Result<Vec<Word>, NoMemory>
+    ensures { IfOk result (λ words. words.items ≡ map string_bytes (drop 1 args.now)) }
+{
+    let mut words = Vec::new(alloc);
+    let others = &args[args.len().min(1)..];
+    for arg in others {
+        words.push(Word::of(alloc, arg.as_str())?)?;
+    }
+    Ok(words)
 }
