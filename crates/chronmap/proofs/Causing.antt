@@ -7,7 +7,6 @@ use Rattle.cm_script.specs.declared.stop.ScriptStop.TheVariants as script_stop
 use Rattle.cm_script.specs.Scripts.{StopsScript}
 use Rattle.chronmap.specs.declared.source.ReadStop.{ReadStop}
 use Rattle.chronmap.specs.declared.source.ReadStop.TheVariants as read_stop
-use Rattle.chronmap.specs.declared.status.Status.{Status}
 use Rattle.chronmap.specs.declared.status.Status.TheVariants as status
 use Rattle.chronmap.specs.declared.stop.Stop.{Stop}
 use Rattle.chronmap.specs.declared.stop.Stop.TheVariants as stop

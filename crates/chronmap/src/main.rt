@@ -15,20 +15,19 @@ mod tests;
 mod word;
 mod words;
 
+use cm_plain::NoMemory;
 pub use memory::{SliceSource, VecSink};
 pub use real::{StdSink, StdSource};
+use refuse::refuse;
 pub use serve::run_words;
 pub use sink::{Sink, write_text};
 pub use source::{MOST_TAKEN, ReadStop, Source, read_input};
 pub use status::Status;
-pub use word::Word;
-
-use cm_plain::NoMemory;
-use refuse::refuse;
 use std::alloc::Global;
 use std::process::ExitCode;
 use std::{env, io};
 use stop::Stop;
+pub use word::Word;
 use words::words_of;
 
 // The words behind the program's name, of the arguments as they could be read. Arguments that are no

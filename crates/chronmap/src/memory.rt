@@ -1,6 +1,6 @@
 //! A source and a sink in memory, with calls that are to fail.
 
-ghost use Rattle.std.specs.Prelude.{◌≡◌, ◌≤◌, Some, []};
+ghost use Rattle.std.specs.Prelude.{◌≡◌, ◌≤◌, ◌↔◌, Some, [], Contains, IsTrue};
 
 use crate::sink::Sink;
 use crate::source::Source;
@@ -19,7 +19,9 @@ pub struct SliceSource<'a> {
 }
 
 // Whether the call of this number is to fail.
-fn is_failing(failing: &[u32], call: u32) -> bool {
+fn is_failing(failing: &[u32], call: u32) -> bool
+    ensures { IsTrue result ↔ Contains failing.now call }
+{
     failing.contains(&call)
 }
 
@@ -28,8 +30,8 @@ impl<'a> SliceSource<'a> {
     /// Calls are counted from 0. Takes no memory.
     pub fn new(bytes: &'a [u8], piece: usize, failing: Vec<u32>) -> SliceSource<'a>
         requires { 1 ≤ piece }
-        ensures left { result.bytes ≡ bytes.entry }
-        ensures faults { result.faults ≡ 0 }
+        ensures left { ⟦<SliceSource<'a> as Source>⟧.left result ≡ Some bytes.entry.now }
+        ensures faults { ⟦<SliceSource<'a> as Source>⟧.faults result ≡ 0 }
     {
         SliceSource {
             bytes,
@@ -77,8 +79,8 @@ impl VecSink {
     /// counted from 0. Takes no memory.
     pub fn new(alloc: Global, piece: usize, failing: Vec<u32>) -> VecSink
         requires { 1 ≤ piece }
-        ensures held { result.held.items ≡ [] }
-        ensures faults { result.faults ≡ 0 }
+        ensures held { ⟦<VecSink as Sink>⟧.held result ≡ Some [] }
+        ensures faults { ⟦<VecSink as Sink>⟧.faults result ≡ 0 }
     {
         VecSink {
             held: Vec::new(alloc),
@@ -91,7 +93,7 @@ impl VecSink {
 
     /// What it holds.
     pub fn bytes(&self) -> &[u8]
-        ensures { result.now ≡ self.now.held.items }
+        ensures { ⟦<VecSink as Sink>⟧.held self.now ≡ Some result.now }
     {
         self.held.as_slice()
     }

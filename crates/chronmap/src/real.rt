@@ -17,8 +17,8 @@ pub struct StdSource<R: Read + Drop> {
 impl<R: Read + Drop> StdSource<R> {
     /// A source over this reader. Takes no memory.
     pub fn new(inner: R) -> StdSource<R>
-        ensures inner { result.inner ≡ inner }
-        ensures faults { result.faults ≡ 0 }
+        ensures left { ⟦<StdSource<R> as Source>⟧.left result ≡ R.remaining inner }
+        ensures faults { ⟦<StdSource<R> as Source>⟧.faults result ≡ 0 }
     {
         StdSource { inner, faults: 0 }
     }
@@ -51,8 +51,8 @@ pub struct StdSink<W: Write + Drop> {
 impl<W: Write + Drop> StdSink<W> {
     /// A sink over this writer. Takes no memory.
     pub fn new(inner: W) -> StdSink<W>
-        ensures inner { result.inner ≡ inner }
-        ensures faults { result.faults ≡ 0 }
+        ensures held { ⟦<StdSink<W> as Sink>⟧.held result ≡ W.contents inner }
+        ensures faults { ⟦<StdSink<W> as Sink>⟧.faults result ≡ 0 }
     {
         StdSink { inner, faults: 0 }
     }

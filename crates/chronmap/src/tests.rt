@@ -71,7 +71,8 @@ fn a_full_map(rt: HostRuntime) -> Result<(), Fail> {
     let mut pairs = String::new(alloc);
     for key in 0u32..64 {
         script.push_str(&format!(in alloc; "0,put,k{key:02},1\n")?)?;
-        report.push_str(&format!(in alloc; "call,0,{0},0,0,{0},new\n", key + 1)?)?;
+        let line = key + 1;
+        report.push_str(&format!(in alloc; "call,0,{line},0,0,{line},new\n")?)?;
         pairs.push_str(&format!(in alloc; "map,0,k{key:02},1\n")?)?;
     }
     script.push_str("0,put,k64,1\n")?;
