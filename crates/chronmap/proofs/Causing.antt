@@ -1,12 +1,14 @@
 -- The cause of a status, from what the calls below told.
 use Rattle.std.specs.Prelude.{◌≡◌, ◌≢◌, ℕ, List}
-use Rattle.std.proofs.Common.{refl}
+use Rattle.std.proofs.Common.{refl, arith}
+use Rattle.chronmap.specs.Statuses.{code_of}
 use Rattle.cm_geo.specs.declared.geo.Geo.{Geo}
 use Rattle.cm_script.specs.declared.stop.ScriptStop.{ScriptStop}
 use Rattle.cm_script.specs.declared.stop.ScriptStop.TheVariants as script_stop
 use Rattle.cm_script.specs.Scripts.{StopsScript}
 use Rattle.chronmap.specs.declared.source.ReadStop.{ReadStop}
 use Rattle.chronmap.specs.declared.source.ReadStop.TheVariants as read_stop
+use Rattle.chronmap.specs.declared.status.Status.{Status}
 use Rattle.chronmap.specs.declared.status.Status.TheVariants as status
 use Rattle.chronmap.specs.declared.stop.Stop.{Stop}
 use Rattle.chronmap.specs.declared.stop.Stop.TheVariants as stop
@@ -14,7 +16,7 @@ use Rattle.chronmap.specs.Told.{Seen}
 use Rattle.chronmap.specs.Words.{Runs, run_words}
 use Rattle.chronmap.specs.Stops.{CausesRead}
 use Rattle.chronmap.specs.Served.{Took, Refuses, Causes}
-use Rattle.chronmap.specs.Refusals.{StopsFor, stop_of_read, stop_of_script, status_of, refusal_text}
+use Rattle.chronmap.specs.Refusals.{IsNoScript, StopsFor, stop_of_read, stop_of_script, status_of, refusal_text}
 
 -- why the input was not read is why there is no report
 pub stops-from_read : (words : List (List ℕ)) (source later : Seen) (geo : Geo) (why : ReadStop)
@@ -46,3 +48,14 @@ usage-from_stop words source later_source stop.Usage stops other = refl
 usage-from_stop words source later_source stop.TooLong (geo, runs, input, took, is) other = absurd (other runs.words_are)
 usage-from_stop words source later_source (stop.Refused line cause) (geo, runs, input, took, is) other = absurd (other runs.words_are)
 usage-from_stop words source later_source stop.ReadFault (geo, runs, rose) other = absurd (other runs.words_are)
+
+-- only an input that is no script gives its status
+pub no_script-from_causes : (status : Status) (words : List (List ℕ)) (source later_source sink later_sink : Seen)
+    → code_of status ≡ 3 → Causes status words source later_source sink later_sink → IsNoScript words source later_source
+no_script-from_causes status.Script words source later_source sink later_sink is (geo, runs, input, took, why, refused, refuses) =
+    (geo, runs, input, took, why, refused)
+no_script-from_causes status.Ok words source later_source sink later_sink is causes = absurd (omega arith)
+no_script-from_causes status.NoMemory words source later_source sink later_sink is causes = absurd (omega arith)
+no_script-from_causes status.Usage words source later_source sink later_sink is causes = absurd (omega arith)
+no_script-from_causes status.ReadFault words source later_source sink later_sink is causes = absurd (omega arith)
+no_script-from_causes status.WriteFault words source later_source sink later_sink is causes = absurd (omega arith)

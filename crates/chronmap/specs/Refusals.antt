@@ -3,7 +3,7 @@ use Rattle.std.specs.Prelude.{◌≡◌, ◌≢◌, ℕ, List, Err}
 use Rattle.cm_geo.specs.declared.geo.Geo.{Geo}
 use Rattle.cm_script.specs.declared.stop.ScriptStop.{ScriptStop}
 use Rattle.cm_script.specs.declared.stop.ScriptStop.TheVariants as script_stop
-use Rattle.cm_script.specs.Scripts.{too_long, refused, script_of}
+use Rattle.cm_script.specs.Scripts.{Refusal, too_long, refused, script_of}
 use Rattle.chronmap.specs.declared.source.ReadStop.{ReadStop}
 use Rattle.chronmap.specs.declared.source.ReadStop.TheVariants as read_stop
 use Rattle.chronmap.specs.declared.status.Status.{Status}
@@ -40,6 +40,11 @@ refusal_text stop.Usage = usage_text
 refusal_text stop.TooLong = script_text too_long
 refusal_text (stop.Refused line cause) = script_text (refused line cause)
 refusal_text stop.ReadFault = read_text
+
+-- the input was taken, and is no script
+abbrev pub IsNoScript : List (List ℕ) → Seen → Seen → Type 0
+IsNoScript words source later_source =
+    (geo : Geo) × Runs words geo × (input : List ℕ) × Took source later_source input × (why : Refusal) × (script_of geo input ≡ Err why)
 
 -- the cause of each refusal, by what the words and the source show; want of memory comes only after words that run
 abbrev pub StopsFor : List (List ℕ) → Seen → Seen → Stop → Type 0

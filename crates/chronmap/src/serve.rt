@@ -3,7 +3,7 @@
 ghost use Rattle.std.specs.Prelude.{◌≡◌, ◌≢◌, ◌↔◌, IfOk, IfErr};
 ghost use Rattle.chronmap.specs.Causes.{Rose};
 ghost use Rattle.chronmap.specs.Printed.{Prints};
-ghost use Rattle.chronmap.specs.Refusals.{StopsFor};
+ghost use Rattle.chronmap.specs.Refusals.{IsNoScript, StopsFor};
 ghost use Rattle.chronmap.specs.Served.{Causes, Served};
 ghost use Rattle.chronmap.specs.Words.{run_words as the_words};
 ghost use Rattle.chronmap.specs.declared.status.Status.TheVariants as status;
@@ -78,6 +78,8 @@ pub fn run_words<R: Source, W: Sink>(
         (record { told = R.left source.old; faults = R.faults source.old }) (record { told = R.left source.new; faults = R.faults source.new })
         (record { told = W.held sink.old; faults = W.faults sink.old }) (record { told = W.held sink.new; faults = W.faults sink.new }) }
     ensures usage { (result ≡ 2) ↔ (words.now ≢ the_words) }
+    ensures script { result ≡ 3 → IsNoScript words.now
+        (record { told = R.left source.old; faults = R.faults source.old }) (record { told = R.left source.new; faults = R.faults source.new }) }
     ensures read { result ≡ 4 → Rose (R.faults source.old) (R.faults source.new) }
     ensures write { result ≡ 5 → Rose (W.faults sink.old) (W.faults sink.new) }
 {
