@@ -1,3 +1,5 @@
+pub mod Appending
+pub mod Causing
 pub mod Regrant
 pub mod Histories
 pub mod Answering

@@ -1,5 +1,5 @@
 -- The statuses that the program ends with, and their refusal texts (own).
-use Rattle.std.specs.Prelude.{ℕ, ◌++◌, List, [], codes, decimal}
+use Rattle.std.specs.Prelude.{ℕ, ◌++◌, List, codes, decimal}
 use Rattle.cm_script.specs.declared.stop.LineCause.{LineCause}
 use Rattle.cm_script.specs.declared.stop.LineCause.TheVariants as cause
 use Rattle.cm_script.specs.Scripts.{Refusal, too_long, refused}

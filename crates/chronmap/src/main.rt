@@ -1,9 +1,55 @@
 //! Runs scripts of callers over one map, and prints their answers and the final map.
 #![tactic(auto)]
 
+mod memory;
+mod real;
+mod refuse;
 mod run;
+mod serve;
+mod sink;
+mod source;
 mod status;
+mod stop;
+#[cfg(test)]
+mod tests;
+mod word;
+mod words;
 
+use cm_plain::NoMemory;
+pub use memory::{SliceSource, VecSink};
+pub use real::{StdSink, StdSource};
+use refuse::refuse;
+pub use serve::run_words;
+pub use sink::{Sink, write_text};
+pub use source::{MOST_TAKEN, ReadStop, Source, read_input};
 pub use status::Status;
+use std::alloc::Global;
+use std::process::ExitCode;
+use std::{env, io};
+use stop::Stop;
+pub use word::Word;
+use words::words_of;
 
-fn main() {}
+// The words behind the program's name, of the arguments as they could be read. Arguments that are no
+// text are words that the program doesn't take.
+fn given_words(alloc: Global, args: io::Result<env::Args>) -> Result<Vec<Word>, Stop> {
+    match args {
+        Ok(args) => {
+            let args: Vec<String> = args.collect(alloc).map_err(NoMemory::from)?;
+            Ok(words_of(alloc, args.as_slice())?)
+        }
+        Err(error) if error.kind() == io::ErrorKind::OutOfMemory => Err(Stop::NoMemory),
+        Err(_) => Err(Stop::Usage),
+    }
+}
+
+fn main(rt: HostRuntime) -> ExitCode {
+    let alloc = rt.alloc();
+    let mut source = StdSource::new(rt.stdin());
+    let mut sink = StdSink::new(rt.stdout());
+    let status = match given_words(alloc, env::args(&rt)) {
+        Ok(words) => run_words(alloc, words.as_slice(), &mut source, &mut sink),
+        Err(stop) => refuse(&mut sink, stop).code(),
+    };
+    ExitCode::from(status)
+}

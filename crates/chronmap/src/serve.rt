@@ -1,0 +1,87 @@
+//! The top call: words and input to status and output.
+
+ghost use Rattle.std.specs.Prelude.{◌≡◌, ◌≢◌, ◌↔◌, IfOk, IfErr};
+ghost use Rattle.chronmap.specs.Causes.{Rose};
+ghost use Rattle.chronmap.specs.Printed.{Prints};
+ghost use Rattle.chronmap.specs.Refusals.{IsNoScript, StopsFor};
+ghost use Rattle.chronmap.specs.Served.{Causes, Served};
+ghost use Rattle.chronmap.specs.Words.{run_words as the_words};
+ghost use Rattle.chronmap.specs.declared.status.Status.TheVariants as status;
+
+use crate::refuse::refuse;
+use crate::run::run_script;
+use crate::sink::{Sink, write_text};
+use crate::source::{Source, read_input};
+use crate::status::Status;
+use crate::stop::Stop;
+use crate::word::Word;
+use crate::words::geometry_of;
+use cm_plain::Failed;
+use cm_script::{read_script, render};
+use std::alloc::Global;
+
+// The text of the report of the source's script.
+fn report_text<R: Source>(alloc: Global, words: &[Word], source: &mut R) -> Result<Vec<u8>, Stop>
+    ensures ok { IfOk result (λ text. Prints words.now (record { told = R.left source.old; faults = R.faults source.old })
+        (record { told = R.left source.new; faults = R.faults source.new }) text.items) }
+    ensures err { IfErr result (StopsFor words.now (record { told = R.left source.old; faults = R.faults source.old })
+        (record { told = R.left source.new; faults = R.faults source.new })) }
+{
+    let Some(geo) = geometry_of(words) else {
+        return Err(Stop::Usage);
+    };
+    let input = read_input(alloc, source)?;
+    let script = read_script(alloc, input.as_slice(), &geo)?;
+    let report = run_script(alloc, &geo, &script)?;
+    Ok(render(alloc, &report)?)
+}
+
+// Serves the words, and answers the status.
+fn serve<R: Source, W: Sink>(alloc: Global, words: &[Word], source: &mut R, sink: &mut W) -> Status
+    ensures cause { Causes result words.now
+        (record { told = R.left source.old; faults = R.faults source.old }) (record { told = R.left source.new; faults = R.faults source.new })
+        (record { told = W.held sink.old; faults = W.faults sink.old }) (record { told = W.held sink.new; faults = W.faults sink.new }) }
+    ensures usage { words.now ≢ the_words → result ≡ status.Usage }
+{
+    let text = match report_text(alloc, words, source) {
+        Ok(text) => text,
+        Err(stop) => return refuse(sink, stop),
+    };
+    match write_text(sink, text.as_slice()) {
+        Ok(()) => Status::Ok,
+        Err(Failed) => Status::WriteFault,
+    }
+}
+
+/// Does all that the program does, and answers the status that it ends with.
+///
+/// Whatever the script, each segment's printed answers are one legal history of a bounded map, each call
+/// once and in its caller's order, and the printed map is its last state; and each other status comes only
+/// for its cause.
+///
+/// - 0: the script was run, and its report was given whole.
+/// - 1: no memory was left; the sink has no byte of a report.
+/// - 2: the words are none that the program takes; the source was not called.
+/// - 3: the input is no script.
+/// - 4: the source failed.
+/// - 5: the sink failed, and holds a front of the report.
+///
+/// For 1 to 4 the sink is given one line that names the refusal; a fault of the sink there doesn't change
+/// the status.
+pub fn run_words<R: Source, W: Sink>(
+    alloc: Global,
+    words: &[Word],
+    source: &mut R,
+    sink: &mut W,
+) -> u8
+    ensures served { Served result words.now
+        (record { told = R.left source.old; faults = R.faults source.old }) (record { told = R.left source.new; faults = R.faults source.new })
+        (record { told = W.held sink.old; faults = W.faults sink.old }) (record { told = W.held sink.new; faults = W.faults sink.new }) }
+    ensures usage { (result ≡ 2) ↔ (words.now ≢ the_words) }
+    ensures script { result ≡ 3 → IsNoScript words.now
+        (record { told = R.left source.old; faults = R.faults source.old }) (record { told = R.left source.new; faults = R.faults source.new }) }
+    ensures read { result ≡ 4 → Rose (R.faults source.old) (R.faults source.new) }
+    ensures write { result ≡ 5 → Rose (W.faults sink.old) (W.faults sink.new) }
+{
+    serve(alloc, words, source, sink).code()
+}
