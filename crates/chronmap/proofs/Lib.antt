@@ -1,6 +1,6 @@
+pub mod Answering
 pub mod Appending
 pub mod Causing
-pub mod Regrant
-pub mod Histories
-pub mod Answering
 pub mod Explaining
+pub mod Histories
+pub mod Regrant
