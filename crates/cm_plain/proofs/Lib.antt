@@ -5,3 +5,7 @@ pub mod Chains
 pub mod Placing
 pub mod Splits
 pub mod Stepping
+pub mod Least
+pub mod Taking
+pub mod Sweeping
+pub mod Counted

@@ -1,14 +1,19 @@
 -- A segment as its callers see it.
-use Rattle.std.specs.Prelude.{ℕ, ◌≡◌, ◌+◌, ◌≤◌, Bool, true, false, List, length, Option, Some, None, if◌then◌else◌}
+use Rattle.std.specs.Prelude.{ℕ, ◌≡◌, ◌+◌, ◌≤◌, Bool, true, false, List, length, All, Option, Some, None, if◌then◌else◌, is_some}
+use Rattle.std.specs.Cmp.Lexicographic.{slice_cmp}
+use Rattle.std.specs.Ordering.{is_lt, nat_cmp}
 use Rattle.cm_geo.specs.declared.geo.Geo.{Geo}
 use Rattle.cm_plain.specs.declared.op.Op.{Op}
-use Rattle.cm_plain.specs.declared.op.Op.TheVariants.{Put, Get, List as ListAll}
+use Rattle.cm_plain.specs.declared.op.Op.TheVariants.{Sweep}
+use Rattle.cm_plain.specs.declared.placed.Placed.{Placed}
+use Rattle.cm_plain.specs.declared.plan.PlanKind.TheVariants as kind
 use Rattle.cm_plain.specs.declared.reply.Reply.{Reply}
-use Rattle.cm_plain.specs.States.{State, IsState}
+use Rattle.cm_plain.specs.declared.reply.Reply.TheVariants as reply
+use Rattle.cm_plain.specs.States.{State, IsState, found_among}
 use Rattle.cm_geo.specs.Need.{need}
 use Rattle.cm_plain.specs.Changes.{placed_value}
 use Rattle.cm_plain.specs.Rooms.{room_for}
-use Rattle.cm_plain.specs.Steps.{ChangesKey, Step, is_change, last_number, room_wanted, would_change}
+use Rattle.cm_plain.specs.Steps.{ChangesKey, Step, has_prefix, is_change, last_number, reply_of, room_wanted, would_change}
 
 -- the geometry, the segment's index, how many changes it took, and its state
 pub record Segment : Type 0 where
@@ -40,9 +45,37 @@ pub record PlacesFor (seen : Segment) (key value : List ℕ) (op : Op) : Type 0 
 pub record Places (old new : Segment) (grant : Bool) (key value : List ℕ) (answer : Reply) : Type 0 where
   pub answers : (op : Op) → PlacesFor old key value op → Answered old new grant op answer
 
--- the operations that a plain segment answers so far
-abbrev pub is_built : Op → Bool
-is_built (Put key value) = true
-is_built (Get key) = true
-is_built (ListAll segment) = true
-is_built _ = false
+-- an operation takes this key's entry away
+pub record TakesFor (seen : Segment) (key : List ℕ) (op : Op) : Type 0 where
+  pub met : would_change op seen.state ≡ true
+  pub taken : placed_value op ≡ None
+  pub keyed : ChangesKey op seen.state key
+
+-- the reply to an operation that takes a key's entry away, or whose change can't be counted any more
+abbrev pub reply_to_taking : Bool → Op → List ℕ → Reply
+reply_to_taking true op key = reply_of kind.Remove op key
+reply_to_taking false op key = reply.Worn
+
+-- each operation that takes this key's entry away was answered; none of them needs a grant
+pub record Takes (old new : Segment) (key : List ℕ) (taken : Bool) : Type 0 where
+  pub answers : (op : Op) (grant : Bool) → TakesFor old key op → Answered old new grant op (reply_to_taking taken op key)
+
+-- no key with the prefix is below this one in byte order
+abbrev pub IsLeast : List ℕ → List Placed → List ℕ → Type 0
+IsLeast prefix entries key = All (λ entry. has_prefix prefix entry.key ≡ true → is_lt (slice_cmp nat_cmp entry.key key) ≡ false) entries
+
+-- this key has an entry and the prefix, and no key with the prefix is below it
+pub record IsLeastKey (prefix : List ℕ) (entries : List Placed) (key : List ℕ) : Type 0 where
+  pub there : is_some (found_among key entries) ≡ true
+  pub prefixed : has_prefix prefix key ≡ true
+  pub least : IsLeast prefix entries key
+
+-- a key that a sweep takes is the least one with its prefix
+abbrev pub SweepsLeast : State → Op → Reply → Type 0
+SweepsLeast state (Sweep segment prefix) (reply.Swept key) = IsLeast prefix state.entries key
+SweepsLeast state op answer = Unit {0}
+
+-- a sweep was answered, whatever segment it names; it needs no grant
+pub record Sweeps (old new : Segment) (prefix : List ℕ) (answer : Reply) : Type 0 where
+  pub answers : (segment : ℕ) (grant : Bool) → Answered old new grant (Sweep segment prefix) answer
+  pub least : (segment : ℕ) → SweepsLeast old.state (Sweep segment prefix) answer

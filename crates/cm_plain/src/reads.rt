@@ -1,9 +1,11 @@
 //! Answers that change nothing.
 
-ghost use Rattle.std.specs.Prelude.{◌≡◌, IfOk, length, map};
+ghost use Rattle.std.specs.Prelude.{◌≡◌, IfOk, length, map, MatchOption, All, false, Some, None, if◌then◌else◌, is_some};
 ghost use Rattle.std.specs.List.Sorted.{IsPermutation};
+ghost use Rattle.std.specs.Option.{option_map};
 ghost use Rattle.cm_plain.specs.States.{ListsEntries, found_among, pair_of, value_in};
-ghost use Rattle.cm_plain.specs.Steps.{got as got_of};
+ghost use Rattle.cm_plain.specs.Steps.{got as got_of, has_prefix, is_value as is_value_in, unmet as unmet_of};
+ghost use Rattle.cm_plain.specs.Segments.{IsLeastKey};
 
 use crate::bytes::Bytes;
 use crate::placed::Placed;
@@ -20,6 +22,48 @@ pub fn got(alloc: Global, entries: &[Placed], key: &[u8]) -> Result<Reply, NoMem
         Some(entry) => Ok(Reply::Value(Bytes::of(alloc, entry.value.as_slice())?)),
         None => Ok(Reply::Missing),
     }
+}
+
+/// What keeps a key's value from being put in first: the value that is there. Takes memory.
+pub fn kept(alloc: Global, entries: &[Placed], key: &[u8]) -> Result<Option<Reply>, NoMemory>
+    ensures { IfOk result (λ answer. answer ≡ option_map (λ value. Reply.Kept value) (value_in (found_among key.now entries.now))) }
+{
+    match find_entry(entries, key) {
+        Some(entry) => Ok(Some(Reply::Kept(Bytes::of(alloc, entry.value.as_slice())?))),
+        None => Ok(None),
+    }
+}
+
+/// What keeps a key's value from being changed: that the key isn't there.
+pub fn missing(entries: &[Placed], key: &[u8]) -> Option<Reply>
+    ensures { result ≡ (if is_some (value_in (found_among key.now entries.now)) then None else Some Reply.Missing) }
+{
+    match find_entry(entries, key) {
+        Some(_) => None,
+        None => Some(Reply::Missing),
+    }
+}
+
+/// What keeps a key's value from being changed where another one is expected.
+pub fn unmet(entries: &[Placed], key: &[u8], expected: &[u8]) -> Option<Reply>
+    ensures { let value = value_in (found_among key.now entries.now) in result ≡ (if is_value_in value expected.now then None else Some (unmet_of value)) }
+{
+    match find_entry(entries, key) {
+        Some(entry) if entry.value.as_slice() == expected => None,
+        Some(_) => Some(Reply::Differs),
+        None => Some(Reply::Missing),
+    }
+}
+
+/// The least key with a prefix, in byte order.
+pub fn least_key<'a>(entries: &'a [Placed], prefix: &[u8]) -> Option<&'a [u8]>
+    ensures { MatchOption result (All (λ entry. has_prefix prefix.now entry.key ≡ false) entries.entry.now) (λ key. IsLeastKey prefix.now entries.entry.now key.now) }
+{
+    entries
+        .iter()
+        .map(|entry| entry.key.as_slice())
+        .filter(|key| key.starts_with(prefix))
+        .min()
 }
 
 /// The pairs of the entries, in their order.

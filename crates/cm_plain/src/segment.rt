@@ -1,10 +1,12 @@
 //! A segment kept as a plain list of entries: slow, and plainly the bounded map.
 
+ghost use Rattle.std.specs.Prelude.{◌≡◌, if◌then◌else◌};
+
 use crate::bytes::Bytes;
-use crate::entries::put_entry;
+use crate::entries::{put_entry, remove_key};
 use crate::op::Op;
 use crate::placed::Placed;
-use crate::reads::{got, listed};
+use crate::reads::{got, kept, least_key, listed, missing, unmet};
 use crate::reply::Reply;
 use crate::rooms::{links, placing_of};
 use crate::stop::NoMemory;
@@ -40,7 +42,7 @@ impl PlainSegment {
     ghost use Rattle.cm_geo.specs.Hash.{segment_of_key};
     ghost use Rattle.cm_geo.specs.Need.{Fits};
     ghost use Rattle.cm_plain.specs.Limits.{KeepsLimits, segment_of};
-    ghost use Rattle.cm_plain.specs.Segments.{Answered, Places, is_built};
+    ghost use Rattle.cm_plain.specs.Segments.{Answered, Places, Sweeps, SweepsLeast, Takes};
     ghost use Rattle.cm_plain.specs.States.{one_tier};
 
     /// One empty tier of a segment, which took no change. Takes memory.
@@ -58,19 +60,48 @@ impl PlainSegment {
     }
 
     /// Answers an operation by one step of the bounded map, with or without the grant of a further tier.
-    /// Takes memory; after NoMemory nothing changed.
+    /// A sweep takes one step, which removes the least key with its prefix in byte order. Takes memory;
+    /// after NoMemory nothing changed.
     pub fn answer(&mut self, alloc: Global, op: &Op, grant: bool) -> Result<Reply, NoMemory>
         requires limits { KeepsLimits self.old.geo op.now }
         requires here { segment_of self.old.geo op.now ≡ self.old.segment }
-        requires built { is_built op.now ≡ true }
         ensures ok { IfOk result (Answered self.old self.new grant op.now) }
+        ensures least { IfOk result (SweepsLeast self.old.state op.now) }
         ensures err { OnErr result (self.new ≡ self.old) }
     {
+        let entries = self.entries.as_slice();
         match op {
             Op::Put { key, value } => self.place(alloc, key.as_slice(), value.as_slice(), grant),
-            Op::Get { key } => got(alloc, self.entries.as_slice(), key.as_slice()),
-            Op::List { .. } => Ok(Reply::Pairs(listed(alloc, self.entries.as_slice())?)),
-            _ => unreachable!(),
+            Op::Get { key } => got(alloc, entries, key.as_slice()),
+            Op::PutIfAbsent { key, value } => match kept(alloc, entries, key.as_slice())? {
+                Some(reply) => Ok(reply),
+                None => self.place(alloc, key.as_slice(), value.as_slice(), grant),
+            },
+            Op::Replace { key, value } => match missing(entries, key.as_slice()) {
+                Some(reply) => Ok(reply),
+                None => self.place(alloc, key.as_slice(), value.as_slice(), grant),
+            },
+            Op::ReplaceIf {
+                key,
+                expected,
+                value,
+            } => match unmet(entries, key.as_slice(), expected.as_slice()) {
+                Some(reply) => Ok(reply),
+                None => self.place(alloc, key.as_slice(), value.as_slice(), grant),
+            },
+            Op::Remove { key } => match missing(entries, key.as_slice()) {
+                Some(reply) => Ok(reply),
+                None => Ok(removed_or_worn(self.take(key.as_slice()))),
+            },
+            Op::RemoveIf { key, expected } => {
+                match unmet(entries, key.as_slice(), expected.as_slice()) {
+                    Some(reply) => Ok(reply),
+                    None => Ok(removed_or_worn(self.take(key.as_slice()))),
+                }
+            }
+            Op::Count { .. } => Ok(Reply::Count(entries.len() as u32)),
+            Op::List { .. } => Ok(Reply::Pairs(listed(alloc, entries)?)),
+            Op::Sweep { prefix, .. } => self.sweep(alloc, prefix.as_slice()),
         }
     }
 
@@ -86,6 +117,34 @@ impl PlainSegment {
         ensures { result ≡ length self.now.state.chain - 1 }
     {
         (self.chain.len() - 1) as u32
+    }
+
+    /// Takes away the entry of the least key with a prefix. Takes memory, before anything changes.
+    fn sweep(&mut self, alloc: Global, prefix: &[u8]) -> Result<Reply, NoMemory>
+        ensures ok { IfOk result (Sweeps self.old self.new prefix.now) }
+        ensures err { OnErr result (self.new ≡ self.old) }
+    {
+        let Some(key) = least_key(self.entries.as_slice(), prefix) else {
+            return Ok(Reply::SweptAll);
+        };
+        let key = Bytes::of(alloc, key)?;
+        Ok(if self.take(key.as_slice()) {
+            Reply::Swept(key)
+        } else {
+            Reply::Worn
+        })
+    }
+
+    /// Takes a key's entry away; false where the segment took as many changes as it can count.
+    fn take(&mut self, key: &[u8]) -> bool
+        ensures { Takes self.old self.new key.now result }
+    {
+        if self.number == LAST_NUMBER {
+            return false;
+        }
+        remove_key(&mut self.entries, key);
+        self.number += 1;
+        true
     }
 
     /// Places a value for a key.
@@ -127,4 +186,11 @@ impl PlainSegment {
             Reply::New
         })
     }
+}
+
+/// The reply to a removal: it was done, or its change can't be counted any more.
+fn removed_or_worn(taken: bool) -> Reply
+    ensures { result ≡ (if taken then Reply.Removed else Reply.Worn) }
+{
+    if taken { Reply::Removed } else { Reply::Worn }
 }

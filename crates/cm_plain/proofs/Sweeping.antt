@@ -1,0 +1,65 @@
+-- How a sweep's step takes the least key with its prefix.
+use Rattle.std.proofs.Common.{◌≡◌, ◌∙◌, ℕ, Bool, true, false, List, [], ◌∷◌, find, All, Option, Some, None, refl, sym, ap, subst, inl, inr}
+use Rattle.std.specs.Prelude.{if◌then◌else◌, is_some}
+use Rattle.std.specs.List.{AllByRecursion, list_any}
+use Rattle.std.specs.Str.{bytes_eq}
+use Rattle.std.proofs.lemmas.Bool.{cases_Bool}
+use Rattle.std.proofs.lemmas.List.Elements.{recursion_from_All}
+use Rattle.std.proofs.lemmas.Slice.Eq.{bytes_eq-Decides}
+use Rattle.cm_plain.specs.declared.op.Op.TheVariants.{Sweep}
+use Rattle.cm_plain.specs.declared.placed.Placed.{Placed}
+use Rattle.cm_plain.specs.declared.reply.Reply.{Reply}
+use Rattle.cm_plain.specs.declared.reply.Reply.TheVariants as reply
+use Rattle.cm_plain.specs.States.{found_among}
+use Rattle.cm_plain.specs.Steps.{Course, StepBy, course, has_prefix, stays}
+use Rattle.cm_plain.specs.Segments.{Answered, IsLeastKey, Segment, Sweeps, SweepsLeast, Takes, TakesFor, reply_to_taking}
+
+-- whether a key has the prefix
+abbrev any_with : List ℕ → List Placed → Bool
+any_with prefix entries = list_any (λ entry. has_prefix prefix entry.key) entries
+
+none_any : (prefix : List ℕ) (entries : List Placed) → AllByRecursion (λ entry. has_prefix prefix entry.key ≡ false) entries → any_with prefix entries ≡ false
+none_any prefix [] h = refl
+none_any prefix (entry ∷ entries) h = rw h.0 (none_any prefix entries h.1)
+
+-- an entry that is found by a key with the prefix has it
+found_any : (prefix key : List ℕ) (entries : List Placed) → has_prefix prefix key ≡ true → is_some (found_among key entries) ≡ true → any_with prefix entries ≡ true
+found_any prefix key [] passes there = cc there
+found_any prefix key (entry ∷ entries) passes there = elim (cases_Bool (has_prefix prefix entry.key)) [
+  | inl here ↦ rw here refl
+  | inr fails ↦ elim (cases_Bool (bytes_eq entry.key key)) [
+    | inl same ↦
+        let is : entry.key ≡ key = (bytes_eq-Decides entry.key key).0 same in
+        let no : true ≡ false = sym passes ∙ sym (ap (has_prefix prefix) is) ∙ fails in cc no
+    | inr differs ↦ rw fails (found_any prefix key entries passes (rw differs at there))
+  ]
+]
+
+-- no key has the prefix
+pub sweeps_none : (seen : Segment) (prefix : List ℕ) → All (λ entry. has_prefix prefix entry.key ≡ false) seen.state.entries → Sweeps seen seen prefix reply.SweptAll
+sweeps_none seen prefix none = record {
+  answers = λ segment grant.
+      let unmet = none_any prefix seen.state.entries (recursion_from_All (λ (entry : Placed). has_prefix prefix entry.key ≡ false) seen.state.entries none) in
+      let course_is : course seen.geo seen.state seen.number grant (Sweep segment prefix) ≡ stays = rw unmet refl in
+      record {
+        geo_same = refl;
+        segment_same = refl;
+        step = subst (λ (it : Course). StepBy it seen.geo seen.segment seen.state (Sweep segment prefix) seen.state reply.SweptAll) (sym course_is) (refl, refl);
+        number_is = refl;
+      };
+  least = λ segment. tt;
+}
+
+-- the least key with the prefix was taken away, or no number was left
+pub sweeps_one : (old new : Segment) (prefix key : List ℕ) (taken : Bool) → IsLeastKey prefix old.state.entries key → Takes old new key taken
+    → Sweeps old new prefix (if taken then reply.Swept key else reply.Worn)
+sweeps_one old new prefix key taken is takes = record {
+  answers = λ segment grant.
+      subst (Answered old new grant (Sweep segment prefix)) (replies segment taken)
+      (takes.answers (Sweep segment prefix) grant (record { met = found_any prefix key old.state.entries is.prefixed is.there; taken = refl; keyed = (is.prefixed, is.there) }));
+  least = λ segment. elim taken as (λ it. SweepsLeast old.state (Sweep segment prefix) (if it then reply.Swept key else reply.Worn)) [ true ↦ is.least | false ↦ tt ];
+}
+  where
+    replies : (segment : ℕ) (it : Bool) → reply_to_taking it (Sweep segment prefix) key ≡ (if it then reply.Swept key else reply.Worn)
+    replies segment true = refl
+    replies segment false = refl

@@ -1,0 +1,135 @@
+-- How taking an entry away is a step of the bounded map.
+use Rattle.std.proofs.Common.{◌≡◌, ◌≢◌, ℕ, ◌+◌, ◌<◌, ◌≤◌, ◌==◌, Bool, true, false, List, Option, Some, None, refl, sym, subst, arith, inl, inr}
+use Rattle.std.specs.Prelude.{if◌then◌else◌, is_some}
+use Rattle.std.proofs.lemmas.Bool.{cases_Bool}
+use Rattle.cm_geo.specs.declared.geo.Geo.{Geo}
+use Rattle.cm_plain.specs.declared.op.Op.{Op}
+use Rattle.cm_plain.specs.declared.op.Op.TheVariants.{Put, Get, PutIfAbsent, Replace, ReplaceIf, Remove, RemoveIf, Count, List as ListAll, Sweep}
+use Rattle.cm_plain.specs.declared.plan.PlanKind.TheVariants as kind
+use Rattle.cm_plain.specs.declared.reply.Reply.TheVariants as reply
+use Rattle.cm_plain.specs.declared.room.Room.TheVariants.{InPlace}
+use Rattle.cm_plain.specs.States.{State, found, value_of}
+use Rattle.cm_plain.specs.Changes.{Change, placed_value, taking, without}
+use Rattle.cm_plain.specs.Steps.{Course, Plans, Step, StepBy, course, goes, is_change, is_value, is_worn, last_number, reply_of, room_wanted, unmet}
+use Rattle.cm_plain.specs.Segments.{Answered, IsSegment, Segment, Takes, TakesFor, reply_to_taking}
+use Rattle.cm_plain.proofs.Placing.{taken_state}
+
+-- an operation that places nothing wants no room
+no_room : (geo : Geo) (state : State) (op : Op) → placed_value op ≡ None → room_wanted geo state op ≡ InPlace
+no_room geo state (Put key value) e = cc e
+no_room geo state (Get key) e = refl
+no_room geo state (PutIfAbsent key value) e = cc e
+no_room geo state (Replace key value) e = cc e
+no_room geo state (ReplaceIf key expected value) e = cc e
+no_room geo state (Remove key) e = refl
+no_room geo state (RemoveIf key expected) e = refl
+no_room geo state (Count segment) e = refl
+no_room geo state (ListAll segment) e = refl
+no_room geo state (Sweep segment prefix) e = refl
+
+-- the reply to an entry's going is one to a change
+is_taken : (op : Op) (key : List ℕ) → is_change (reply_of kind.Remove op key) ≡ true
+is_taken (Put key value) changed = refl
+is_taken (Get key) changed = refl
+is_taken (PutIfAbsent key value) changed = refl
+is_taken (Replace key value) changed = refl
+is_taken (ReplaceIf key expected value) changed = refl
+is_taken (Remove key) changed = refl
+is_taken (RemoveIf key expected) changed = refl
+is_taken (Count segment) changed = refl
+is_taken (ListAll segment) changed = refl
+is_taken (Sweep segment prefix) changed = refl
+
+-- the state and the segment without a key's entry
+abbrev pub state_without : State → List ℕ → State
+state_without state key = record { chain = state.chain; entries = without key state.entries }
+
+abbrev pub segment_without : Segment → List ℕ → Segment
+segment_without seen key = record { geo = seen.geo; segment = seen.segment; number = seen.number + 1; state = state_without seen.state key }
+
+pub is_segment_without : (seen : Segment) (key : List ℕ) → IsSegment seen → seen.number ≢ last_number → IsSegment (segment_without seen key)
+is_segment_without seen key is counts = record {
+  rests = taken_state seen.geo seen.segment seen.state key is.rests;
+  counted = below seen.number last_number is.counted counts;
+}
+  where
+    below : (number last : ℕ) → number ≤ last → number ≢ last → number + 1 ≤ last
+    below number last h ne = omega arith
+
+-- an entry that was taken away was taken by one step
+step_taken : (seen : Segment) (grant : Bool) (key : List ℕ) (op : Op) → IsSegment seen → (seen.number == last_number) ≡ false → TakesFor seen key op
+    → Step seen.geo seen.segment seen.state seen.number grant op (state_without seen.state key) (reply_of kind.Remove op key)
+step_taken seen grant key op is counts takes =
+    let change = taking seen.geo op key (found key seen.state) in
+    let plans : Plans seen.geo seen.segment seen.state op change = record {
+      met = takes.met;
+      key = takes.keyed;
+      change_is = rw takes.taken refl;
+      leads = taken_state seen.geo seen.segment seen.state key is.rests;
+    } in
+    let course_is : course seen.geo seen.state seen.number grant op ≡ goes = rw (takes.met, no_room seen.geo seen.state op takes.taken, counts) refl in
+    subst (λ (it : Course). StepBy it seen.geo seen.segment seen.state op (state_without seen.state key) (reply_of kind.Remove op key)) (sym course_is)
+    (change, plans, refl, refl)
+
+-- where no number is left, no entry is taken
+step_worn : (seen : Segment) (grant : Bool) (key : List ℕ) (op : Op) → (seen.number == last_number) ≡ true → TakesFor seen key op
+    → Step seen.geo seen.segment seen.state seen.number grant op seen.state (reply_to_taking false op key)
+step_worn seen grant key op worn takes =
+    let course_is : course seen.geo seen.state seen.number grant op ≡ is_worn = rw (takes.met, no_room seen.geo seen.state op takes.taken, worn) refl in
+    subst (λ (it : Course). StepBy it seen.geo seen.segment seen.state op seen.state (reply_to_taking false op key)) (sym course_is) (refl, refl)
+
+pub takes_without : (seen : Segment) (key : List ℕ) → IsSegment seen → (seen.number == last_number) ≡ false → Takes seen (segment_without seen key) key true
+takes_without seen key is counts = record {
+  answers = λ op grant takes. record {
+    geo_same = refl;
+    segment_same = refl;
+    step = step_taken seen grant key op is counts takes;
+    number_is = rw (is_taken op key) refl;
+  };
+}
+
+pub takes_worn : (seen : Segment) (key : List ℕ) → (seen.number == last_number) ≡ true → Takes seen seen key false
+takes_worn seen key worn = record {
+  answers = λ op grant takes. record {
+    geo_same = refl;
+    segment_same = refl;
+    step = step_worn seen grant key op worn takes;
+    number_is = refl;
+  };
+}
+
+-- what is answered to a removal, by whether the entry was taken away
+pub removal_answered : (old new : Segment) (grant : Bool) (key : List ℕ) (taken : Bool) (op : Op) → ((it : Bool) → reply_to_taking it op key ≡ (if it then reply.Removed else reply.Worn))
+    → TakesFor old key op → Takes old new key taken → Answered old new grant op (if taken then reply.Removed else reply.Worn)
+removal_answered old new grant key taken op same for takes = subst (Answered old new grant op) (same taken) (takes.answers op grant for)
+
+-- a key that nothing is answered for has an entry
+is_there : (value : Option (List ℕ)) → None ≡ (if is_some value then None else Some reply.Missing) → is_some value ≡ true
+is_there None e = cc e
+is_there (Some value) e = refl
+
+pub remove_answered : (old new : Segment) (grant : Bool) (key : List ℕ) (taken : Bool) → None ≡ (if is_some (value_of key old.state) then None else Some reply.Missing)
+    → Takes old new key taken → Answered old new grant (Remove key) (if taken then reply.Removed else reply.Worn)
+remove_answered old new grant key taken none takes =
+    removal_answered old new grant key taken (Remove key) replies (record { met = is_there (value_of key old.state) none; taken = refl; keyed = refl }) takes
+  where
+    replies : (it : Bool) → reply_to_taking it (Remove key) key ≡ (if it then reply.Removed else reply.Worn)
+    replies true = refl
+    replies false = refl
+
+-- a key whose value is the expected one
+is_expected : (value : Option (List ℕ)) (expected : List ℕ) → None ≡ (if is_value value expected then None else Some (unmet value)) → is_value value expected ≡ true
+is_expected value expected e = elim (cases_Bool (is_value value expected)) [
+  | inl same ↦ same
+  | inr differs ↦ let no = rw differs at e in cc no
+]
+
+pub remove_if_answered : (old new : Segment) (grant : Bool) (key expected : List ℕ) (taken : Bool)
+    → (let value = value_of key old.state in None ≡ (if is_value value expected then None else Some (unmet value)))
+    → Takes old new key taken → Answered old new grant (RemoveIf key expected) (if taken then reply.Removed else reply.Worn)
+remove_if_answered old new grant key expected taken none takes =
+    removal_answered old new grant key taken (RemoveIf key expected) replies (record { met = is_expected (value_of key old.state) expected none; taken = refl; keyed = refl }) takes
+  where
+    replies : (it : Bool) → reply_to_taking it (RemoveIf key expected) key ≡ (if it then reply.Removed else reply.Worn)
+    replies true = refl
+    replies false = refl

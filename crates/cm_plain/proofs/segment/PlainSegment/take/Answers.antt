@@ -1,0 +1,22 @@
+-- An entry that was taken away, and one that stays for want of a number.
+use Rattle.std.proofs.Common.{◌≡◌, ◌==◌, ◌+◌, Bool, true, false, sym, subst, arith, rules}
+use Rattle.std.proofs.lemmas.Bool.Decides.{nat_tests}
+use Rattle.cm_plain.specs.States.{State}
+use Rattle.cm_plain.specs.Changes.{without}
+use Rattle.cm_plain.specs.Steps.{last_number}
+use Rattle.cm_plain.specs.Segments.{IsSegment, Segment, Takes}
+use Rattle.cm_plain.proofs.Taking.{is_segment_without, takes_without, takes_worn}
+use Rattle.cm_plain.proofs.segment.PlainSegment.take.Goals as goal
+
+pub invariant_of-self : goal.invariant_of-self
+invariant_of-self c =
+    let state : State = record { chain = c.self.inside.chain.items; entries = c.self.inside.entries.items } in
+    let seen : Segment = record { geo = c.self.inside.geo; segment = c.self.inside.segment; number = c.self.inside.number; state = state } in
+    rw c.remove_key.ensures.items (is_segment_without seen c.args.key.now c.self.invariant c.if-self-eq-LAST_NUMBER.false)
+
+pub returns : goal.returns
+returns c =
+    let state : State = record { chain = c.self.inside.chain.items; entries = c.self.inside.entries.items } in
+    let seen : Segment = record { geo = c.self.inside.geo; segment = c.self.inside.segment; number = c.self.inside.number; state = state } in
+    let counts : (seen.number == last_number) ≡ false = grind (arith, nat_tests, c.if-self-eq-LAST_NUMBER.false) in
+    rw (sym c.self.view_is, c.remove_key.ensures.items) (takes_without seen c.args.key.now c.self.invariant counts)
