@@ -15,6 +15,8 @@ mod room;
 mod rooms;
 mod segment;
 mod stop;
+#[cfg(test)]
+mod tests;
 
 pub use bytes::Bytes;
 pub use list_of::ListOf;
