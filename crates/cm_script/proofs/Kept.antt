@@ -1,5 +1,5 @@
 -- The lines of a script keep the limits of the geometry that it was read for.
-use Rattle.std.proofs.Common.{◌≡◌, ◌∙◌, ℕ, ◌+◌, ◌<◌, ◌≤◌, ◌==◌, ◌||◌, Bool, true, false, List, [], ◌∷◌, length, nat_lt, nat_le, zero, suc, ◌^◌, All, Option, Some, None, Result, Ok, Err, find, refl, sym, subst, arith, inl, inr}
+use Rattle.std.proofs.Common.{◌≡◌, ℕ, ◌+◌, ◌<◌, ◌≤◌, ◌||◌, Bool, true, false, List, [], ◌∷◌, length, nat_lt, nat_le, zero, suc, Option, Some, None, Result, Ok, Err, find, refl, subst, arith, inl, inr}
 use Rattle.std.specs.List.{range_with_len}
 use Rattle.std.specs.Str.{bytes_eq}
 use Rattle.std.specs.Prelude.{decimal}
@@ -17,8 +17,7 @@ use Rattle.cm_script.specs.declared.stop.LineCause.TheVariants as cause
 use Rattle.cm_script.specs.declared.verb.Verb.{Verb}
 use Rattle.cm_script.specs.declared.verb.Verb.TheVariants as verb
 use Rattle.cm_script.specs.Numbers.{number_below}
-use Rattle.cm_script.specs.Rows.{records_of}
-use Rattle.cm_script.specs.Scripts.{IsFor, Refusal, built, in_segment, is_built, is_empty, is_large, is_long_key, is_long_value, keyed, line_by, line_of, line_then, line_with, lines_from, lists_with, op_of, refused, script_of, too_long, unless, verb_of, with_line, written}
+use Rattle.cm_script.specs.Scripts.{IsFor, Refusal, built, in_segment, is_built, is_empty, is_large, is_long_key, is_long_value, keyed, line_by, line_of, line_then, line_with, lines_from, lists_with, op_of, unless, verb_of, written}
 
 -- what passes a test that would refuse it
 record Passes (test : Bool) (asked : Op) (result : Result Op LineCause) : Type 0 where
