@@ -1,4 +1,4 @@
--- Why there is no report, with the status and the text of each refusal.
+-- Why there is no report, with the status and the text of each refusal (own).
 use Rattle.std.specs.Prelude.{◌≡◌, ◌≢◌, ℕ, List, Err}
 use Rattle.cm_geo.specs.declared.geo.Geo.{Geo}
 use Rattle.cm_script.specs.declared.stop.ScriptStop.{ScriptStop}

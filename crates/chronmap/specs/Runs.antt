@@ -1,4 +1,4 @@
--- What one record of a run gives, and what the final map is.
+-- What one record of a run gives, and what the final map is (own).
 use Rattle.std.specs.Prelude.{ℕ, ◌≡◌, false, List, map}
 use Rattle.cm_plain.specs.declared.receipt.Receipt.{Receipt}
 use Rattle.cm_plain.specs.declared.receipt.MapLine.{MapLine}

@@ -1,4 +1,4 @@
--- Why the input was not read.
+-- Why the input was not read (own).
 use Rattle.std.specs.Prelude.{ℕ}
 use Rattle.chronmap.specs.Causes.{Rose}
 use Rattle.chronmap.specs.declared.source.ReadStop.{ReadStop}

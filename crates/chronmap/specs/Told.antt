@@ -1,4 +1,4 @@
--- What a source and a sink tell of their bytes.
+-- What a source and a sink tell of their bytes (own).
 use Rattle.std.specs.Prelude.{◌≡◌, ◌≤◌, ◌⊎◌, ◌++◌, ℕ, List, length, Option}
 use Rattle.std.specs.Io.KnownBytes.{Appends, Consumes, IsAtEnd}
 

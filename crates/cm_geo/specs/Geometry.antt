@@ -1,4 +1,4 @@
--- Which five numbers are a geometry.
+-- Which five numbers are a geometry (own).
 use Rattle.std.specs.Prelude.{◌≡◌, ℕ, ◌-◌, ◌*◌, ◌^◌, not, nat_lt, if◌then◌else◌, Option, Some, None}
 use Rattle.cm_geo.specs.declared.geo.Geo.{Geo}
 use Rattle.cm_geo.specs.declared.refused.GeoRefused.{GeoRefused}

@@ -1,4 +1,4 @@
--- The limits of a geometry's numbers.
+-- The limits of a geometry's numbers (own).
 use Rattle.std.specs.Prelude.{ℕ, Bool, ◌==◌, ◌&&◌, nat_le, [], ◌∷◌}
 use Rattle.std.specs.List.{list_any}
 

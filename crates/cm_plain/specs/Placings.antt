@@ -1,4 +1,4 @@
--- What is decided before a value is placed.
+-- What is decided before a value is placed (own).
 use Rattle.std.specs.Prelude.{ℕ, ◌≡◌, List, length, Some, is_some}
 use Rattle.cm_geo.specs.declared.geo.Geo.{Geo}
 use Rattle.cm_geo.specs.Need.{need}

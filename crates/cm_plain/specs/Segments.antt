@@ -1,4 +1,4 @@
--- A segment as its callers see it.
+-- A segment as its callers see it (own).
 use Rattle.std.specs.Prelude.{ℕ, ◌≡◌, ◌+◌, ◌≤◌, Bool, true, false, List, length, All, Option, Some, None, if◌then◌else◌, is_some}
 use Rattle.std.specs.Cmp.Lexicographic.{slice_cmp}
 use Rattle.std.specs.Ordering.{is_lt, nat_cmp}
