@@ -1,17 +1,16 @@
 -- When the run of a new entry meets none of those that stand.
-use Rattle.std.proofs.Common.{◌≡◌, ◌≢◌, ◌∙◌, ℕ, ◌+◌, ◌-◌, ◌*◌, ◌/◌, ◌<◌, ◌≤◌, ◌==◌, ◌&&◌, ◌||◌, Bool, true, false, not, List, [], ◌∷◌, ◌++◌, length, filter, find, nat_lt, nat_le, Option, Some, None, cond, refl, sym, ap, subst, arith, zero, suc, inl, inr, ◌⊎◌, rules}
+use Rattle.std.proofs.Common.{◌≡◌, ◌≢◌, ◌∙◌, ℕ, ◌+◌, ◌-◌, ◌*◌, ◌/◌, ◌<◌, ◌≤◌, ◌==◌, ◌&&◌, Bool, true, false, List, [], ◌∷◌, length, filter, find, nat_lt, nat_le, Some, refl, sym, subst, arith, inl, inr, ◌⊎◌}
 use Rattle.std.specs.List.{AllByRecursion, list_any}
 use Rattle.std.proofs.lemmas.Bool.{cases_Bool, cases_eq, cases_lt}
 use Rattle.std.proofs.Math.Nat.{div-lt_iff_lt-mul}
 use Rattle.std.proofs.lemmas.Bool.Decides.{nat_tests}
-use Rattle.std.specs.Str.{bytes_eq}
 use Rattle.cm_geo.specs.declared.geo.Geo.{Geo}
-use Rattle.cm_geo.specs.Need.{need, parts_for}
+use Rattle.cm_geo.specs.Need.{parts_for}
 use Rattle.cm_plain.specs.declared.placed.Placed.{Placed}
 use Rattle.cm_plain.specs.States.{HasRun, chunks_of, run_start, run_end}
 use Rattle.cm_plain.specs.Rooms.{meets, is_free}
 use Rattle.cm_plain.specs.Changes.{with_entry}
-use Rattle.cm_plain.proofs.Each.{Pairs, each_kept, each_weaker, each_both, each_append, pairs_kept, pairs_append, each_fails, found_has, found_passes}
+use Rattle.cm_plain.proofs.Each.{Pairs, each_kept, each_weaker, each_both, pairs_kept, pairs_append, each_fails, found_has}
 
 -- on numbers: which of two runs comes first, by where they begin
 low_end : (start chunks at more : ℕ) → (start + chunks ≤ at) ⊎ (at + more ≤ start) → nat_lt start at ≡ true → start + chunks ≤ at

@@ -1,9 +1,9 @@
 -- The lowest place outside a chain, and the chain with it.
-use Rattle.std.proofs.Common.{◌≡◌, ◌≢◌, ◌∙◌, ℕ, ◌+◌, ◌-◌, ◌<◌, ◌≤◌, ◌==◌, Bool, true, false, not, List, [], ◌∷◌, ◌++◌, length, get_or, nat_lt, eqb, All, Contains, Option, Some, None, refl, sym, ap, subst, arith, zero, suc, inl, inr, ◌⊎◌, rules}
-use Rattle.std.specs.List.{list_any, position_or_len, range_with_len, slice_get, AllPairs, AllByRecursion}
+use Rattle.std.proofs.Common.{◌≡◌, ◌≢◌, ◌∙◌, ℕ, ◌+◌, ◌<◌, ◌≤◌, ◌==◌, Bool, true, false, not, List, [], ◌∷◌, ◌++◌, length, eqb, Some, refl, sym, subst, arith, zero, suc, inl, inr}
+use Rattle.std.specs.List.{list_any, position_or_len, range_with_len, slice_get, AllByRecursion}
 use Rattle.std.proofs.lemmas.Bool.{cases_Bool, cases_eq}
 use Rattle.std.proofs.lemmas.Bool.Decides.{nat_tests}
-use Rattle.std.proofs.lemmas.List.Elements.{All-push, Contains-append_left}
+use Rattle.std.proofs.lemmas.List.Elements.{All-push}
 use Rattle.std.proofs.lemmas.List.Quantifiers.{all_pairs_push}
 use Rattle.std.proofs.lemmas.List.{length_push}
 use Rattle.std.proofs.lemmas.Map.Steps.{le-length_from_below}

@@ -1,5 +1,5 @@
 -- How many entries a state has at most.
-use Rattle.std.proofs.Common.{◌≡◌, ℕ, ◌+◌, ◌*◌, ◌<◌, ◌≤◌, ◌^◌, List, [], ◌∷◌, length, get_or, Contains, suc, subst, arith}
+use Rattle.std.proofs.Common.{ℕ, ◌+◌, ◌*◌, ◌<◌, ◌≤◌, ◌^◌, List, [], ◌∷◌, length, suc, subst, arith}
 use Rattle.std.specs.List.{AllByRecursion}
 use Rattle.std.proofs.Math.Nat.{mul-le-mul_left}
 use Rattle.std.proofs.lemmas.List.Elements.{recursion_from_All}
@@ -7,7 +7,7 @@ use Rattle.cm_geo.specs.declared.geo.Geo.{Geo}
 use Rattle.cm_geo.proofs.Ranges.{chunks_range, tiers_range}
 use Rattle.cm_plain.specs.declared.placed.Placed.{Placed}
 use Rattle.cm_plain.specs.States.{IsChain, IsPlaced, IsState, State, chunks_of, run_end, run_start}
-use Rattle.cm_plain.proofs.Each.{Pairs, each_both, each_weaker, pairs_from_all}
+use Rattle.cm_plain.proofs.Each.{Pairs, each_weaker, pairs_from_all}
 use Rattle.cm_plain.proofs.Apart.{Rising, chunks_some}
 
 -- entries whose runs rise from a chunk to another are no more than the chunks between

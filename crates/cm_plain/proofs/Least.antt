@@ -1,5 +1,5 @@
 -- The least key with a prefix, as the least of the keys that have it.
-use Rattle.std.proofs.Common.{◌≡◌, ◌∙◌, ℕ, Bool, true, false, List, [], ◌∷◌, length, map, filter, find, fold, All, Option, Some, None, MatchOption, refl, sym, ap, subst, arith, inl, inr, ◌⊎◌, rules, Ordering, Less, Equal, Greater, Bor}
+use Rattle.std.proofs.Common.{◌≡◌, ◌∙◌, ℕ, true, false, List, [], ◌∷◌, map, filter, fold, All, Option, Some, None, MatchOption, refl, sym, ap, subst, inl, inr, Ordering, Less, Equal, Greater, Bor}
 use Rattle.std.specs.Prelude.{is_some}
 use Rattle.std.specs.Option.{option_map}
 use Rattle.std.specs.List.{AllByRecursion, reduce}
@@ -15,7 +15,7 @@ use Rattle.std.proofs.lemmas.Slice.Eq.{bytes_eq-Decides}
 use Rattle.cm_plain.specs.declared.placed.Placed.{Placed}
 use Rattle.cm_plain.specs.States.{found_among}
 use Rattle.cm_plain.specs.Steps.{has_prefix}
-use Rattle.cm_plain.specs.Segments.{IsLeast, IsLeastKey}
+use Rattle.cm_plain.specs.Segments.{IsLeastKey}
 use Rattle.cm_plain.proofs.Each.{each_weaker}
 
 -- the lesser of two keys, as `min` takes it

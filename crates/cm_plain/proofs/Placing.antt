@@ -1,9 +1,9 @@
 -- Placing a value where there is room leads from a state to a state.
-use Rattle.std.proofs.Common.{◌≡◌, ◌≢◌, ◌∙◌, ℕ, ◌+◌, ◌-◌, ◌*◌, ◌<◌, ◌≤◌, ◌==◌, ◌||◌, Bool, true, false, not, List, [], ◌∷◌, ◌++◌, length, filter, find, get_or, nat_lt, nat_le, All, Contains, Option, Some, None, refl, sym, ap, subst, arith, zero, suc, inl, inr, ◌⊎◌, rules}
-use Rattle.std.specs.List.{AllByRecursion, AllPairs, list_any, range_with_len}
-use Rattle.std.specs.Option.{option_map, option_or}
+use Rattle.std.proofs.Common.{◌≡◌, ◌≢◌, ◌∙◌, ℕ, ◌+◌, ◌-◌, ◌<◌, ◌≤◌, Bool, true, false, not, List, [], ◌∷◌, ◌++◌, length, filter, nat_lt, nat_le, All, Contains, Option, Some, None, refl, sym, subst, arith, suc, inl, inr, ◌⊎◌}
+use Rattle.std.specs.List.{AllByRecursion, AllPairs, range_with_len}
+use Rattle.std.specs.Option.{option_or}
 use Rattle.std.specs.Str.{bytes_eq}
-use Rattle.std.proofs.lemmas.Bool.{cases_Bool, cases_eq}
+use Rattle.std.proofs.lemmas.Bool.{cases_Bool}
 use Rattle.std.proofs.lemmas.Bool.Decides.{nat_tests}
 use Rattle.std.proofs.lemmas.Slice.Eq.{bytes_eq-Decides}
 use Rattle.std.proofs.lemmas.List.Elements.{All-from_recursion, recursion_from_All, Contains-append_left, Contains-push}
@@ -15,10 +15,10 @@ use Rattle.cm_plain.specs.declared.placed.Placed.{Placed}
 use Rattle.cm_plain.specs.declared.room.Spot.{Spot}
 use Rattle.cm_plain.specs.declared.room.Room.{Room}
 use Rattle.cm_plain.specs.declared.room.Room.TheVariants.{InPlace, Elsewhere, NewTier, Nowhere}
-use Rattle.cm_plain.specs.States.{HasRun, IsChain, IsPlaced, IsState, State, chunks_of, found, found_among, run_start, run_end}
-use Rattle.cm_plain.specs.Rooms.{can_stay, first_fit, fit_among, is_free, is_new_tier, least_free, lowest_unlinked, meets, room_apart, room_beside, room_for, spot_at, spot_in}
+use Rattle.cm_plain.specs.States.{HasRun, IsChain, IsPlaced, IsState, State, chunks_of, found, run_start}
+use Rattle.cm_plain.specs.Rooms.{can_stay, first_fit, fit_among, is_free, least_free, lowest_unlinked, meets, room_apart, room_beside, room_for, spot_at, spot_in}
 use Rattle.cm_plain.specs.Changes.{entry_at, with_entry, without}
-use Rattle.cm_plain.proofs.Each.{Pairs, Across, across_tests, all_from_pairs, each_append, each_both, each_fails, each_kept, each_weaker, found_has, found_passes, pairs_append, pairs_from_all, pairs_kept}
+use Rattle.cm_plain.proofs.Each.{Pairs, across_tests, all_from_pairs, each_append, each_both, each_kept, each_weaker, found_has, found_passes, pairs_append, pairs_from_all, pairs_kept}
 use Rattle.cm_plain.proofs.Apart.{IsApart, Rising, apart_places, chunks_some, free_run, fresh_apart, longer, others_apart, rising_with, shorter}
 use Rattle.cm_plain.proofs.Chains.{IsOutside, chain_with, each_other, lowest_outside}
 

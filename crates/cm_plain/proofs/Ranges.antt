@@ -1,7 +1,6 @@
 -- A search through a range of numbers, one step on.
-use Rattle.std.proofs.Common.{◌≡◌, ◌+◌, ◌-◌, ◌<◌, ◌≤◌, ℕ, ◌∷◌, [], Bool, true, false, find, Option, Some, None, refl, arith, zero, suc, cond, ap, rules}
+use Rattle.std.proofs.Common.{◌≡◌, ◌+◌, ◌-◌, ◌<◌, ◌≤◌, ℕ, ◌∷◌, [], Bool, true, false, find, Some, None, refl, arith, suc}
 use Rattle.std.specs.List.{range_with_len, position_or_len}
-use Rattle.std.proofs.lemmas.Grind.{common_steps}
 
 -- the rest of a range is its first number and the rest behind it
 pub range_step : (low high : ℕ) → low < high → range_with_len low (high - low) ≡ low ∷ range_with_len (low + 1) (high - (low + 1))

@@ -1,9 +1,8 @@
 -- Where a list in rising order is cut at a number.
-use Rattle.std.proofs.Common.{◌≡◌, ◌≢◌, ◌∙◌, ℕ, ◌+◌, ◌<◌, ◌≤◌, Bool, true, false, List, [], ◌∷◌, ◌++◌, length, filter, take, drop, nat_lt, count_by, All, AllPairs, refl, sym, ap, subst, arith, zero, suc, inl, inr}
+use Rattle.std.proofs.Common.{◌≡◌, ◌≢◌, ℕ, ◌+◌, ◌<◌, ◌≤◌, Bool, true, false, List, [], ◌∷◌, length, filter, take, drop, nat_lt, refl, ap, arith, inl, inr}
 use Rattle.std.specs.List.{AllByRecursion}
 use Rattle.std.proofs.lemmas.Bool.{cases_Bool}
 use Rattle.std.proofs.lemmas.Bool.Decides.{nat_tests}
-use Rattle.std.proofs.lemmas.List.Sums.{length-filter}
 use Rattle.std.specs.List.{insert}
 use Rattle.cm_geo.specs.declared.geo.Geo.{Geo}
 use Rattle.cm_plain.specs.declared.placed.Placed.{Placed}

@@ -1,9 +1,6 @@
 -- How the changes of a segment are steps of the bounded map.
-use Rattle.std.proofs.Common.{◌≡◌, ◌≢◌, ◌∙◌, ℕ, ◌+◌, ◌<◌, ◌≤◌, ◌==◌, ◌&&◌, Bool, true, false, not, List, [], ◌∷◌, ◌++◌, length, Option, Some, None, refl, sym, ap, subst, arith, cond}
+use Rattle.std.proofs.Common.{◌≡◌, ◌≢◌, ◌∙◌, ℕ, ◌+◌, ◌≤◌, ◌==◌, ◌&&◌, Bool, true, false, not, List, [], ◌∷◌, ◌++◌, length, Option, Some, None, refl, sym, ap, subst, arith}
 use Rattle.std.specs.Prelude.{if◌then◌else◌, is_some}
-use Rattle.std.specs.Option.{option_map}
-use Rattle.std.proofs.lemmas.Bool.{cases_Bool}
-use Rattle.std.proofs.lemmas.Bool.Decides.{nat_tests}
 use Rattle.cm_geo.specs.declared.geo.Geo.{Geo}
 use Rattle.cm_geo.specs.Hash.{segment_of_key}
 use Rattle.cm_geo.specs.Need.{Fits, need}
@@ -20,7 +17,7 @@ use Rattle.cm_plain.specs.Changes.{after, entry_at, kind_in, placing, planned, w
 use Rattle.cm_plain.specs.Steps.{Plans, Step, Course, StepBy, course, goes, is_change, last_number, reply_of}
 use Rattle.cm_plain.specs.declared.rooms.Placing.{Placing}
 use Rattle.cm_plain.specs.Placings.{IsPlacing}
-use Rattle.cm_plain.specs.Segments.{Answered, IsSegment, Places, PlacesFor, Segment}
+use Rattle.cm_plain.specs.Segments.{IsSegment, Places, PlacesFor, Segment}
 use Rattle.cm_plain.specs.States.{run_start}
 use Rattle.std.specs.List.{All}
 use Rattle.cm_plain.proofs.Placing.{chain_for, placed_state, starts_apart}

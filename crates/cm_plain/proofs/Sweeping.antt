@@ -1,5 +1,5 @@
 -- How a sweep's step takes the least key with its prefix.
-use Rattle.std.proofs.Common.{◌≡◌, ◌∙◌, ℕ, Bool, true, false, List, [], ◌∷◌, find, All, Option, Some, None, refl, sym, ap, subst, inl, inr}
+use Rattle.std.proofs.Common.{◌≡◌, ◌∙◌, ℕ, Bool, true, false, List, [], ◌∷◌, All, refl, sym, ap, subst, inl, inr}
 use Rattle.std.specs.Prelude.{if◌then◌else◌, is_some}
 use Rattle.std.specs.List.{AllByRecursion, list_any}
 use Rattle.std.specs.Str.{bytes_eq}
@@ -8,11 +8,10 @@ use Rattle.std.proofs.lemmas.List.Elements.{recursion_from_All}
 use Rattle.std.proofs.lemmas.Slice.Eq.{bytes_eq-Decides}
 use Rattle.cm_plain.specs.declared.op.Op.TheVariants.{Sweep}
 use Rattle.cm_plain.specs.declared.placed.Placed.{Placed}
-use Rattle.cm_plain.specs.declared.reply.Reply.{Reply}
 use Rattle.cm_plain.specs.declared.reply.Reply.TheVariants as reply
 use Rattle.cm_plain.specs.States.{found_among}
 use Rattle.cm_plain.specs.Steps.{Course, StepBy, course, has_prefix, stays}
-use Rattle.cm_plain.specs.Segments.{Answered, IsLeastKey, Segment, Sweeps, SweepsLeast, Takes, TakesFor, reply_to_taking}
+use Rattle.cm_plain.specs.Segments.{Answered, IsLeastKey, Segment, Sweeps, SweepsLeast, Takes, reply_to_taking}
 
 -- whether a key has the prefix
 abbrev any_with : List ℕ → List Placed → Bool

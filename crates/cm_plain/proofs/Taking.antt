@@ -1,5 +1,5 @@
 -- How taking an entry away is a step of the bounded map.
-use Rattle.std.proofs.Common.{◌≡◌, ◌≢◌, ℕ, ◌+◌, ◌<◌, ◌≤◌, ◌==◌, Bool, true, false, List, Option, Some, None, refl, sym, subst, arith, inl, inr}
+use Rattle.std.proofs.Common.{◌≡◌, ◌≢◌, ℕ, ◌+◌, ◌≤◌, ◌==◌, Bool, true, false, List, Option, Some, None, refl, sym, subst, arith, inl, inr}
 use Rattle.std.specs.Prelude.{if◌then◌else◌, is_some}
 use Rattle.std.proofs.lemmas.Bool.{cases_Bool}
 use Rattle.cm_geo.specs.declared.geo.Geo.{Geo}
@@ -9,7 +9,7 @@ use Rattle.cm_plain.specs.declared.plan.PlanKind.TheVariants as kind
 use Rattle.cm_plain.specs.declared.reply.Reply.TheVariants as reply
 use Rattle.cm_plain.specs.declared.room.Room.TheVariants.{InPlace}
 use Rattle.cm_plain.specs.States.{State, found, value_of}
-use Rattle.cm_plain.specs.Changes.{Change, placed_value, taking, without}
+use Rattle.cm_plain.specs.Changes.{placed_value, taking, without}
 use Rattle.cm_plain.specs.Steps.{Course, Plans, Step, StepBy, course, goes, is_change, is_value, is_worn, last_number, reply_of, room_wanted, unmet}
 use Rattle.cm_plain.specs.Segments.{Answered, IsSegment, Segment, Takes, TakesFor, reply_to_taking}
 use Rattle.cm_plain.proofs.Placing.{taken_state}

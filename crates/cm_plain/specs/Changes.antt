@@ -1,11 +1,11 @@
 -- The plan of a change, and the state after it (own).
-use Rattle.std.specs.Prelude.{ℕ, ◌≡◌, ◌+◌, ◌==◌, ◌&&◌, not, Bool, true, false, List, [], ◌∷◌, ◌++◌, length, map, filter, nat_lt, Option, Some, None, if◌then◌else◌}
+use Rattle.std.specs.Prelude.{ℕ, not, Bool, true, false, List, [], ◌∷◌, ◌++◌, length, filter, nat_lt, Option, Some, None}
 use Rattle.std.specs.Option.{option_map}
 use Rattle.std.specs.Str.{bytes_eq}
 use Rattle.cm_geo.specs.declared.geo.Geo.{Geo}
 use Rattle.cm_geo.specs.Need.{need}
 use Rattle.cm_plain.specs.declared.op.Op.{Op}
-use Rattle.cm_plain.specs.declared.op.Op.TheVariants.{Put, Get, PutIfAbsent, Replace, ReplaceIf, Remove, RemoveIf, Count, List as ListAll, Sweep}
+use Rattle.cm_plain.specs.declared.op.Op.TheVariants.{Put, PutIfAbsent, Replace, ReplaceIf}
 use Rattle.cm_plain.specs.declared.plan.Run.{Run}
 use Rattle.cm_plain.specs.declared.plan.PlanKind.{PlanKind}
 use Rattle.cm_plain.specs.declared.plan.PlanKind.TheVariants as kind

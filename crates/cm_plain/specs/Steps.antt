@@ -1,6 +1,6 @@
 -- One step of the bounded map: the reply to an operation, and the state after it. It is after Chronicle Map in outline for get, put,
 -- put-if-absent, replace, replace-if, remove and remove-if, and own for count, list, sweep, the replies and the placement.
-use Rattle.std.specs.Prelude.{ℕ, ◌≡◌, ◌^◌, ◌==◌, ◌&&◌, not, Bool, true, false, List, [], ◌∷◌, length, Contains, Option, Some, None, if◌then◌else◌, is_some, is_none}
+use Rattle.std.specs.Prelude.{ℕ, ◌≡◌, ◌^◌, ◌==◌, ◌&&◌, not, Bool, true, false, List, length, Option, Some, None, if◌then◌else◌, is_some, is_none}
 use Rattle.std.specs.List.{list_any, starts_with}
 use Rattle.std.specs.Prelude.{nat_eq}
 use Rattle.std.specs.Str.{bytes_eq}
@@ -13,13 +13,12 @@ use Rattle.cm_plain.specs.declared.plan.PlanKind.TheVariants as kind
 use Rattle.cm_plain.specs.declared.reply.Pair.{Pair}
 use Rattle.cm_plain.specs.declared.reply.Reply.{Reply}
 use Rattle.cm_plain.specs.declared.reply.Reply.TheVariants as reply
-use Rattle.cm_plain.specs.declared.placed.Placed.{Placed}
 use Rattle.cm_plain.specs.States.{State}
 use Rattle.cm_plain.specs.States.{IsState, Lists, found, value_of}
 use Rattle.cm_plain.specs.declared.room.Room.{Room}
 use Rattle.cm_plain.specs.declared.room.Room.TheVariants.{InPlace}
 use Rattle.cm_plain.specs.Rooms.{is_new_tier, is_nowhere, room_for}
-use Rattle.cm_plain.specs.Changes.{Change, planned, placed_value, after}
+use Rattle.cm_plain.specs.Changes.{Change, planned, after}
 
 -- the last number of changes that a segment counts to
 abbrev pub last_number : ℕ

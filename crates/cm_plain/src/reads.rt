@@ -1,6 +1,6 @@
 //! Answers that change nothing.
 
-ghost use Rattle.std.specs.Prelude.{◌≡◌, IfOk, length, map, MatchOption, All, false, Some, None, if◌then◌else◌, is_some};
+ghost use Rattle.std.specs.Prelude.{◌≡◌, ◌<◌, ◌^◌, IfOk, length, map, MatchOption, All, false, Some, None, if◌then◌else◌, is_some};
 ghost use Rattle.std.specs.List.Sorted.{IsPermutation};
 ghost use Rattle.std.specs.Option.{option_map};
 ghost use Rattle.cm_plain.specs.States.{ListsEntries, found_among, pair_of, value_in};
@@ -82,6 +82,7 @@ fn pairs_of(alloc: Global, entries: &[Placed]) -> Result<Vec<Pair>, NoMemory>
 
 /// All pairs, in byte order of the keys. Takes memory.
 pub fn listed(alloc: Global, entries: &[Placed]) -> Result<PairList, NoMemory>
+    requires { length entries.now < 2 ^ 32 }
     ensures { IfOk result (ListsEntries entries.now) }
 {
     let mut pairs = pairs_of(alloc, entries)?;

@@ -10,29 +10,54 @@ pub struct Pair {
     pub value: Bytes,
 }
 
-/// Pairs in a row. Contracts see the list of them.
+/// Pairs in a row, fewer than 2^32. Contracts see the list of them.
 #[derive(Drop, Debug)]
 pub struct PairList {
     pairs: Vec<Pair>,
 }
 
 impl Model for PairList {
-    ghost use Rattle.std.specs.Prelude.{List};
+    ghost use Rattle.std.specs.Prelude.{List, length, ◌<◌, ◌^◌};
     ghost use Rattle.cm_plain.specs.declared.reply.Pair.{Pair};
 
     ghost Value = { List Pair };
 
     ghost view = { λ l. l.pairs.items };
+
+    ghost invariant = { λ l. length l.pairs.items < 2 ^ 32 };
 }
 
 impl PairList {
-    ghost use Rattle.std.specs.Prelude.{◌≡◌, ◌<◌, ◌≤◌, ◌^◌, length, slice_get, Some};
+    ghost use Rattle.std.specs.Prelude.{◌≡◌, ◌==◌, ◌<◌, ◌^◌, length, slice_get, Some};
 
-    /// The list of a `Vec`'s pairs, of which there are fewer than 2^32. Takes no memory.
+    /// The list of a `Vec`'s pairs. Takes no memory.
     pub fn from_vec(pairs: Vec<Pair>) -> PairList
+        requires { length pairs.items < 2 ^ 32 }
         ensures { result ≡ pairs.items }
     {
         PairList { pairs }
+    }
+
+    /// How many pairs there are.
+    pub fn len(&self) -> u32
+        ensures { result ≡ length self.now }
+    {
+        self.pairs.len() as u32
+    }
+
+    /// Whether there is no pair.
+    pub fn is_empty(&self) -> bool
+        ensures { result ≡ (length self.now == 0) }
+    {
+        self.pairs.is_empty()
+    }
+
+    /// The pair at an index, counted from 0.
+    pub fn pair(&self, at: u32) -> &Pair
+        requires { at < length self.now }
+        ensures { slice_get self.now at ≡ Some result.now }
+    {
+        &self.pairs[at as usize]
     }
 
     /// The pairs.

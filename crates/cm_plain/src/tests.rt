@@ -259,3 +259,29 @@ fn wants_free_chunks_in_a_row(rt: HostRuntime) -> Result<(), Fail> {
     }
     Ok(())
 }
+
+#[test]
+fn copies_an_operation(rt: HostRuntime) -> Result<(), Fail> {
+    for line in ["replace-if a 1 2", "count", "sweep b"] {
+        let op = op_of(rt.alloc(), line)?;
+        let copy = op.clone()?;
+        assert!(rt; copy == op, "at {line}");
+    }
+    Ok(())
+}
+
+#[test]
+fn lists_pairs_by_index(rt: HostRuntime) -> Result<(), Fail> {
+    let mut tried = Tried::new(rt.alloc(), Geo::new(1, 1, 64, 4, 0)?)?;
+    tried.ask(&rt, rt.alloc(), "put b 2", false)?;
+    tried.ask(&rt, rt.alloc(), "put a 1", false)?;
+    let Reply::Pairs(pairs) = tried.ask(&rt, rt.alloc(), "list", false)? else {
+        panic!(rt; "no pairs");
+    };
+    assert_eq!(rt; pairs.len(), 2);
+    assert!(rt; !pairs.is_empty());
+    if 1 < pairs.len() {
+        assert_eq!(rt; text(&pairs.pair(1).key), "b");
+    }
+    Ok(())
+}

@@ -1,10 +1,9 @@
-use Rattle.std.proofs.Common.{◌≡◌, ◌≤◌, ◌∙◌, ◌++◌, ◌∷◌, ℕ, List, Bool, ap, arith, length, take, drop, filter, nat_lt, count_by, sym, rules}
-use Rattle.std.specs.List.{AllByRecursion}
+use Rattle.std.proofs.Common.{◌≡◌, ◌∙◌, ℕ, Bool, ap, length, filter, nat_lt, sym, rules}
 use Rattle.cm_plain.specs.declared.placed.Placed.{Placed}
-use Rattle.cm_plain.specs.States.{chunks_of, run_start, run_end}
+use Rattle.cm_plain.specs.States.{run_start}
 use Rattle.std.proofs.lemmas.List.Sums.{length-filter}
 use Rattle.std.proofs.lemmas.List.Elements.{recursion_from_All}
-use Rattle.cm_plain.proofs.Each.{Pairs, pairs_from_all}
+use Rattle.cm_plain.proofs.Each.{pairs_from_all}
 use Rattle.std.specs.List.{insert}
 use Rattle.cm_plain.proofs.Splits.{cut_at}
 use Rattle.cm_plain.proofs.entries.insert_entry.Goals as goal

@@ -1,4 +1,4 @@
-use Rattle.std.proofs.Common.{◌≤◌, ◌*◌, arith}
+use Rattle.std.proofs.Common.{◌≤◌, arith}
 use Rattle.std.proofs.Math.Nat.{mul-le-mul_left}
 use Rattle.cm_geo.proofs.Ranges.{chunks_range}
 use Rattle.cm_plain.proofs.entries.run_start.Goals as goal

@@ -1,12 +1,11 @@
-use Rattle.std.proofs.Common.{◌≡◌, ◌∙◌, Bool, map, rules, subst, sym}
+use Rattle.std.proofs.Common.{◌≡◌, Bool, rules, sym}
 use Rattle.std.specs.Ordering.{is_lt, nat_cmp}
 use Rattle.std.specs.Cmp.Lexicographic.{slice_cmp}
-use Rattle.std.specs.List.Sorted.{IsPermutation, IsSortedByKey}
+use Rattle.std.specs.List.Sorted.{IsSortedByKey}
 use Rattle.std.proofs.lemmas.Cmp.{nat_list_cmp_total}
 use Rattle.std.proofs.lemmas.List.Sorted.{ranks_by}
 use Rattle.std.proofs.lemmas.Fn.{always_returns_same}
 use Rattle.cm_plain.specs.declared.reply.Pair.{Pair}
-use Rattle.cm_plain.specs.States.{ListsEntries, pair_of}
 use Rattle.cm_plain.proofs.reads.listed.Goals as goal
 
 pub returns : goal.returns

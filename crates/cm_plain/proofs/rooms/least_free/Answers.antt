@@ -1,5 +1,4 @@
-use Rattle.std.proofs.Common.{◌≡◌, ◌∙◌, ℕ, Bool, sym, ap, refl, arith, ◌<◌, ◌-◌, true, false, find}
-use Rattle.std.specs.List.{range_with_len}
+use Rattle.std.proofs.Common.{◌≡◌, ◌∙◌, ℕ, Bool, sym, refl, arith, ◌-◌, true, false}
 use Rattle.cm_plain.specs.Rooms.{is_free}
 use Rattle.cm_plain.proofs.Ranges.{find_here, find_next}
 use Rattle.cm_plain.proofs.rooms.least_free.Goals as goal

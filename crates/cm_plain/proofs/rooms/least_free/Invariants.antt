@@ -1,4 +1,4 @@
-use Rattle.std.proofs.Common.{◌≡◌, ◌+◌, ◌-◌, find}
+use Rattle.std.proofs.Common.{◌≡◌, ◌-◌, find}
 use Rattle.std.specs.List.{range_with_len}
 use Rattle.cm_plain.specs.Rooms.{is_free, least_free}
 use Rattle.cm_plain.proofs.rooms.least_free.Given as goal

@@ -1,5 +1,5 @@
-use Rattle.std.proofs.Common.{◌≡◌, ◌∙◌, ◌+◌, ◌==◌, ℕ, Bool, not, sym, ap, arith, true, false}
-use Rattle.std.specs.List.{list_any, position_or_len, range_with_len}
+use Rattle.std.proofs.Common.{◌≡◌, ◌∙◌, ℕ, not, sym, ap, arith, true, false}
+use Rattle.std.specs.List.{position_or_len, range_with_len}
 use Rattle.cm_plain.specs.Rooms.{is_unlinked}
 use Rattle.cm_plain.proofs.Ranges.{position_here, position_next}
 use Rattle.cm_plain.proofs.rooms.lowest_unlinked.Goals as goal

@@ -1,5 +1,5 @@
 -- What each operation's answer is by a step.
-use Rattle.std.proofs.Common.{◌≡◌, ◌<◌, ◌^◌, length, sym, arith}
+use Rattle.std.proofs.Common.{◌<◌, ◌^◌, length, sym, arith}
 use Rattle.cm_plain.specs.States.{State}
 use Rattle.std.proofs.lemmas.Result.{IfOk-weaker}
 use Rattle.cm_plain.specs.declared.op.Op.TheVariants.{Sweep}
@@ -13,6 +13,11 @@ overflow_cast-result c =
     let state : State = record { chain = c.self.inside.chain.items; entries = c.self.inside.entries.items } in
     let few : length c.as_slice-entries.result.now < 2 ^ 32 = rw c.as_slice-entries.ensures.value (few_entries c.self.inside.geo c.self.inside.segment state c.self.invariant.rests) in
     omega (arith, few)
+
+pub listed-requires : goal.listed-requires
+listed-requires c =
+    let state : State = record { chain = c.self.inside.chain.items; entries = c.self.inside.entries.items } in
+    rw c.as_slice-entries.ensures.value (few_entries c.self.inside.geo c.self.inside.segment state c.self.invariant.rests)
 
 pub returns-in-None-missing-2-clause-ok : goal.returns-in-None-missing-2-clause-ok
 returns-in-None-missing-2-clause-ok c =

@@ -1,11 +1,10 @@
 -- A sweep that takes the least key with its prefix, and one that has taken all.
-use Rattle.std.proofs.Common.{◌≡◌, ◌∙◌, Bool, All, false, sym, ap, subst, refl}
+use Rattle.std.proofs.Common.{◌≡◌, ◌∙◌, Bool, All, false, sym, ap, subst}
 use Rattle.std.specs.Prelude.{if◌then◌else◌}
-use Rattle.cm_plain.specs.declared.reply.Reply.{Reply}
 use Rattle.cm_plain.specs.declared.reply.Reply.TheVariants as reply
 use Rattle.cm_plain.specs.States.{State}
 use Rattle.cm_plain.specs.Steps.{has_prefix}
-use Rattle.cm_plain.specs.Segments.{IsLeastKey, Segment, Sweeps}
+use Rattle.cm_plain.specs.Segments.{IsLeastKey, Segment}
 use Rattle.cm_plain.proofs.Sweeping.{sweeps_none, sweeps_one}
 use Rattle.cm_plain.proofs.segment.PlainSegment.sweep.Goals as goal
 use Rattle.cm_plain.proofs.segment.PlainSegment.sweep.Goals.{then-take, else-take}

@@ -1,11 +1,10 @@
 -- An entry that was taken away, and one that stays for want of a number.
-use Rattle.std.proofs.Common.{◌≡◌, ◌==◌, ◌+◌, Bool, true, false, sym, subst, arith, rules}
+use Rattle.std.proofs.Common.{◌≡◌, ◌==◌, false, sym, arith}
 use Rattle.std.proofs.lemmas.Bool.Decides.{nat_tests}
 use Rattle.cm_plain.specs.States.{State}
-use Rattle.cm_plain.specs.Changes.{without}
 use Rattle.cm_plain.specs.Steps.{last_number}
-use Rattle.cm_plain.specs.Segments.{IsSegment, Segment, Takes}
-use Rattle.cm_plain.proofs.Taking.{is_segment_without, takes_without, takes_worn}
+use Rattle.cm_plain.specs.Segments.{Segment}
+use Rattle.cm_plain.proofs.Taking.{is_segment_without, takes_without}
 use Rattle.cm_plain.proofs.segment.PlainSegment.take.Goals as goal
 
 pub invariant_of-self : goal.invariant_of-self
