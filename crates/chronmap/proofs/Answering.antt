@@ -1,8 +1,6 @@
 -- The receipts of a script whose records are answered one after the other.
-use Rattle.std.proofs.Common.{◌≡◌, ◌∙◌, ℕ, ◌+◌, ◌-◌, ◌<◌, ◌≤◌, ◌==◌, ◌%◌, ◌&&◌, Bool, true, false, List, [], ◌∷◌, ◌++◌, length, map, filter, take, get_or, All, Option, Some, None, ap, cond, refl, sym, subst, arith, zero, suc, inl, inr}
+use Rattle.std.proofs.Common.{◌≡◌, ◌∙◌, ℕ, ◌+◌, ◌≤◌, ◌==◌, Bool, false, List, [], ◌∷◌, ◌++◌, filter, take, All, Some, ap, refl, sym, arith, zero, suc}
 use Rattle.std.specs.List.{enumerate_from, filter_map, flat_map, range_with_len, slice_get}
-use Rattle.std.specs.Option.{option_map}
-use Rattle.std.proofs.lemmas.Bool.{cases_Bool}
 use Rattle.std.proofs.lemmas.Bool.Decides.{nat_tests}
 use Rattle.std.proofs.lemmas.List.{append-nil, append_assoc}
 use Rattle.std.specs.List.{AllByRecursion}
@@ -11,7 +9,7 @@ use Rattle.cm_geo.specs.declared.geo.Geo.{Geo}
 use Rattle.cm_plain.specs.declared.receipt.Receipt.{Receipt}
 use Rattle.cm_plain.specs.History.{Call}
 use Rattle.cm_script.specs.declared.line.Line.{Line}
-use Rattle.cm_script.specs.Explained.{Answers, AnswersAll, AnswersOnce, IsOf, Numbered, call_at, calls_in, is_sweep, records_by_caller, records_of_caller}
+use Rattle.cm_script.specs.Explained.{Answers, AnswersAll, Numbered, call_at, calls_in, records_by_caller, records_of_caller}
 
 -- the receipts of records, with those of one more
 pub answers_more : (geo : Geo) (records : List Numbered) (last : Numbered) (receipts own : List Receipt) → AnswersAll geo records receipts → Answers geo last own

@@ -1,6 +1,6 @@
 -- What a run of one segment reports explains its script.
-use Rattle.std.proofs.Common.{◌≡◌, ◌≢◌, ◌∙◌, ℕ, ◌+◌, ◌-◌, ◌<◌, ◌≤◌, ◌==◌, ◌%◌, ◌&&◌, Bool, true, false, List, [], ◌∷◌, ◌++◌, length, map, filter, take, get_or, All, Option, Some, None, ap, cond, refl, sym, subst, arith, zero, suc, inl, inr}
-use Rattle.std.specs.List.{enumerate_from, flat_map, range_with_len, slice_get, sum_by}
+use Rattle.std.proofs.Common.{◌≡◌, ◌∙◌, ℕ, ◌+◌, ◌-◌, ◌<◌, ◌≤◌, ◌==◌, ◌%◌, Bool, true, false, List, [], ◌∷◌, ◌++◌, length, map, take, All, Some, ap, refl, sym, subst, arith, zero, suc, inl, inr}
+use Rattle.std.specs.List.{enumerate_from, slice_get}
 use Rattle.std.proofs.lemmas.Bool.{cases_Bool}
 use Rattle.std.proofs.lemmas.Bool.Decides.{nat_tests}
 use Rattle.std.proofs.lemmas.List.{append-nil, take_all}
@@ -11,17 +11,16 @@ use Rattle.cm_plain.specs.declared.op.Op.{Op}
 use Rattle.cm_plain.specs.declared.op.Op.TheVariants.{Put, Get, PutIfAbsent, Replace, ReplaceIf, Remove, RemoveIf, Count, List as ListAll, Sweep}
 use Rattle.cm_plain.specs.declared.receipt.MapLine.{MapLine}
 use Rattle.cm_plain.specs.declared.receipt.Receipt.{Receipt}
-use Rattle.cm_plain.specs.History.{Call, Legal, changes}
+use Rattle.cm_plain.specs.History.{Call, Legal}
 use Rattle.cm_plain.specs.Limits.{KeepsLimits, segment_of}
 use Rattle.cm_plain.specs.Segments.{Segment}
-use Rattle.cm_plain.specs.States.{State, one_tier}
+use Rattle.cm_plain.specs.States.{one_tier}
 use Rattle.cm_script.specs.declared.line.Line.{Line}
-use Rattle.cm_script.specs.declared.report.Report.{Report}
-use Rattle.cm_script.specs.Explained.{Answers, AnswersAll, AnswersBy, AnswersOnce, Explained, IsOf, call_at, calls_in, is_sweep, map_line, records_by_caller}
+use Rattle.cm_script.specs.Explained.{Answers, AnswersAll, AnswersBy, AnswersOnce, Explained, IsOf, call_at, calls_in, is_sweep, map_line}
 use Rattle.cm_script.specs.Scripts.{IsFor, is_built, is_built_op}
 use Rattle.chronmap.specs.Runs.{MapsState, Receives}
 use Rattle.chronmap.proofs.Answering.{all_of_first, answers_more, calls_more, numbered_more}
-use Rattle.chronmap.proofs.Histories.{History, More, begins, count, is_legal, more, state_at}
+use Rattle.chronmap.proofs.Histories.{More, begins, count, is_legal, more, state_at}
 
 -- the remainder by one
 rest_of_one : (n one : ℕ) → one ≡ 1 → n % one ≡ 0

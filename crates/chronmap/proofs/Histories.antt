@@ -1,8 +1,8 @@
 -- The history of a segment whose operations are answered one after the other.
-use Rattle.std.proofs.Common.{◌≡◌, ◌≢◌, ◌∙◌, ℕ, ◌+◌, ◌-◌, ◌<◌, ◌≤◌, Bool, true, false, inl, inr, List, [], ◌∷◌, ◌++◌, length, map, filter, get_or, All, ap, cond, refl, sym, subst, arith, zero, suc}
+use Rattle.std.proofs.Common.{◌≡◌, ◌∙◌, ℕ, ◌+◌, ◌<◌, ◌≤◌, Bool, true, false, inl, inr, List, [], ◌∷◌, ◌++◌, length, map, filter, get_or, All, ap, refl, sym, subst, arith, zero, suc}
 use Rattle.std.specs.List.{AllPairs, range_with_len}
 use Rattle.std.proofs.lemmas.Bool.{cases_Bool}
-use Rattle.std.proofs.lemmas.List.{append-nil, get_or_append_left, get_or_push, length_push, map-append, append_assoc}
+use Rattle.std.proofs.lemmas.List.{append-nil, get_or_append_left, get_or_push, length_push, map-append}
 use Rattle.std.proofs.lemmas.List.Elements.{All-push, All-weaker, filter-append}
 use Rattle.std.proofs.lemmas.List.Quantifiers.{all_pairs_push}
 use Rattle.std.proofs.lemmas.List.Sorted.{IsPermutation-refl}
@@ -11,10 +11,9 @@ use Rattle.cm_geo.specs.declared.geo.Geo.{Geo}
 use Rattle.cm_plain.specs.declared.op.Op.{Op}
 use Rattle.cm_plain.specs.declared.reply.Reply.{Reply}
 use Rattle.cm_plain.specs.declared.reply.Reply.TheVariants as reply
-use Rattle.cm_plain.specs.declared.receipt.Receipt.{Receipt}
 use Rattle.cm_plain.specs.States.{State, one_tier}
 use Rattle.cm_plain.specs.Steps.{Step, is_change}
-use Rattle.cm_plain.specs.History.{Call, IsAnswerOf, IsChangeOf, IsIn, KeepsOrder, Legal, changes, granted}
+use Rattle.cm_plain.specs.History.{Call, IsIn, KeepsOrder, Legal, changes, granted}
 use Rattle.cm_plain.specs.Segments.{Answered, Segment}
 use Rattle.chronmap.proofs.Regrant.{as_granted, unchanged_state}
 

@@ -1,5 +1,5 @@
 -- A step without the grant of a further tier is one with it, but for its want.
-use Rattle.std.proofs.Common.{ap, List, inl, inr, ◌⊎◌, ◌≡◌, ◌∙◌, ℕ, ◌==◌, ◌&&◌, Bool, true, false, not, refl, sym, subst}
+use Rattle.std.proofs.Common.{ap, List, inl, inr, ◌⊎◌, ◌≡◌, ◌∙◌, ℕ, ◌==◌, Bool, true, false, refl, sym, subst}
 use Rattle.std.proofs.lemmas.Bool.{cases_Bool}
 use Rattle.cm_geo.specs.declared.geo.Geo.{Geo}
 use Rattle.cm_plain.specs.declared.op.Op.{Op}

@@ -1,5 +1,4 @@
-use Rattle.std.proofs.Common.{◌≡◌, ◌∙◌, ◌++◌, ◌∷◌, ◌≤◌, [], length, ap, sym, arith}
-use Rattle.cm_plain.specs.Limits.{KeepsLimits}
+use Rattle.std.proofs.Common.{◌≤◌, length, arith}
 use Rattle.chronmap.proofs.Explaining.{explains, line_for, ran_more, ran_none}
 use Rattle.chronmap.proofs.run.run_script.Goals as goal
 
