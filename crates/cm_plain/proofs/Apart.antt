@@ -16,6 +16,7 @@ use Rattle.cm_plain.proofs.Each.{Pairs, each_kept, each_weaker, each_both, pairs
 low_end : (start chunks at more : ℕ) → (start + chunks ≤ at) ⊎ (at + more ≤ start) → nat_lt start at ≡ true → start + chunks ≤ at
 low_end start chunks at more apart below = grind (arith, nat_tests)
 
+-- the other way round
 high_start : (start chunks at more : ℕ) → (start + chunks ≤ at) ⊎ (at + more ≤ start) → nat_lt at start ≡ true → at + more ≤ start
 high_start start chunks at more apart above = grind (arith, nat_tests)
 
@@ -23,6 +24,7 @@ high_start start chunks at more apart above = grind (arith, nat_tests)
 abbrev pub IsApart : Geo → Placed → Placed → Type 0
 IsApart geo entry other = (run_end geo entry ≤ run_start geo other) ⊎ (run_end geo other ≤ run_start geo entry)
 
+-- one run ends before the other begins
 abbrev pub Rising : Geo → Placed → Placed → Type 0
 Rising geo entry later = run_end geo entry ≤ run_start geo later
 
@@ -71,12 +73,14 @@ words_some geo = elim (cases_eq geo.chunk_words 0) [
   | inr some ↦ omega arith
 ]
 
+-- something takes a part at least
 some_parts : (size whole : ℕ) → 1 ≤ size → 1 ≤ whole → 1 ≤ parts_for size whole
 some_parts size whole h k = elim (cases_lt ((whole + size - 1) / size) 1) [
   | inl none ↦ let below : whole + size - 1 < 1 * size = (div-lt_iff_lt-mul h).0 none in absurd (omega (arith, below))
   | inr some ↦ some
 ]
 
+-- so an entry takes a chunk at least
 pub chunks_some : (geo : Geo) (entry : Placed) → 1 ≤ chunks_of geo entry
 chunks_some geo entry =
     some_parts geo.chunk_words (2 + parts_for 8 (length entry.key) + parts_for 8 (length entry.value)) (words_some geo) (omega arith)
@@ -106,6 +110,7 @@ pub record IsFreeRun (geo : Geo) (entries : List Placed) (place chunk chunks : �
   pub inside : chunk + chunks ≤ geo.chunks
   pub alone : AllByRecursion (λ other. meets geo place chunk chunks other ≡ false) entries
 
+-- free chunks are such a run
 pub free_run : (geo : Geo) (entries : List Placed) (place chunk chunks : ℕ) → is_free geo entries place chunk chunks ≡ true → IsFreeRun geo entries place chunk chunks
 free_run geo entries place chunk chunks e = elim (cases_Bool (nat_le (chunk + chunks) geo.chunks)) [
   | inl inside ↦

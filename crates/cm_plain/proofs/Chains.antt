@@ -19,13 +19,16 @@ pub record IsFirst (test : ℕ → Bool) (low count at : ℕ) : Type 0 where
   pub fails : at ≡ count → (i : ℕ) → i < count → test (low + i) ≡ false
   pub within : at ≤ count
 
+-- a test answers the same at an equal number
 at_same : (test : ℕ → Bool) (low low' : ℕ) (answer : Bool) → low ≡ low' → test low' ≡ answer → test low ≡ answer
 at_same test low low' answer e h = rw e h
 
+-- where the first number fails and all behind it fail, all fail
 first_fails : (test : ℕ → Bool) (low count : ℕ) → test low ≡ false → ((i : ℕ) → i < count → test (low + 1 + i) ≡ false) → (i : ℕ) → i < suc count → test (low + i) ≡ false
 first_fails test low count here later zero below = at_same test (low + 0) low false (omega arith) here
 first_fails test low count here later (suc i) below = at_same test (low + suc i) (low + 1 + i) false (omega arith) (later i (omega arith))
 
+-- the first place that passes is one
 pub first_in : (test : ℕ → Bool) (low count : ℕ) → IsFirst test low count (position_or_len test (range_with_len low count))
 first_in test low zero = record { passes = λ h. absurd (omega arith); fails = λ e i h. absurd (omega arith); within = omega arith }
 first_in test low (suc count) = elim (cases_Bool (test low)) [
@@ -52,23 +55,28 @@ pub record IsOutside (geo : Geo) (chain : List ℕ) (place : ℕ) : Type 0 where
   pub below : place < geo.tiers
   pub unlinked : is_unlinked chain place ≡ true
 
+-- whether a place is linked, with the sides of the test turned
 linked_each_way : (chain : List ℕ) (place : ℕ) → list_any (λ linked. linked == place) chain ≡ list_any (eqb place) chain
 linked_each_way [] place = refl
 linked_each_way (linked ∷ chain) place = let same : (linked == place) ≡ eqb place linked = grind (arith, nat_tests) in rw (same, linked_each_way chain place) refl
 
+-- what is not false, is true
 not_false : (b : Bool) → not b ≡ false → b ≡ true
 not_false true e = refl
 not_false false e = cc e
 
+-- what is not true, is false
 not_true : (b : Bool) → not b ≡ true → b ≡ false
 not_true false e = refl
 not_true true e = cc e
 
+-- a chain that has all places is as long as there are places
 all_linked : (chain : List ℕ) (most : ℕ) → ((place : ℕ) → place < most → is_unlinked chain (0 + place) ≡ false) → most ≤ length chain
 all_linked chain most linked =
     le-length_from_below chain most
     (λ place below. sym (linked_each_way chain place) ∙ not_false (list_any (λ it. it == place) chain) (at_same (is_unlinked chain) place (0 + place) false (omega arith) (linked place below)))
 
+-- the lowest place outside a chain is outside it
 pub lowest_outside : (geo : Geo) (chain : List ℕ) → length chain < geo.tiers → IsOutside geo chain (lowest_unlinked geo chain)
 lowest_outside geo chain short =
     let first = first_in (is_unlinked chain) 0 geo.tiers in
@@ -85,6 +93,7 @@ each_other chain place e =
     each_weaker (λ linked. (linked == place) ≡ false) (λ linked. linked ≢ place) (λ linked no. grind (arith, nat_tests)) chain
     (each_fails (λ linked. linked == place) chain (not_true (list_any (λ linked. linked == place) chain) e))
 
+-- a longer chain begins as before
 first_stays : (chain : List ℕ) (place : ℕ) → slice_get chain 0 ≡ Some 0 → slice_get (chain ++ place ∷ []) 0 ≡ Some 0
 first_stays [] place e = cc e
 first_stays (linked ∷ chain) place e = e

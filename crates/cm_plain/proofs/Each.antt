@@ -9,17 +9,20 @@ abbrev pub Pairs : {X : Type 0} → (X → X → Type 0) → List X → Type 0
 Pairs R [] = Unit {0}
 Pairs R (x ∷ xs) = AllByRecursion (R x) xs × Pairs R xs
 
+-- what holds of each two by their places holds by recursion
 pub pairs_from_all : {X : Type 0} (R : X → X → Type 0) (xs : List X) → AllPairs R xs → Pairs R xs
 pairs_from_all R [] h = tt
 pairs_from_all R (x ∷ xs) h =
     (recursion_from_All (R x) xs (λ k d below. h 0 (suc k) d (omega arith) (omega arith)), pairs_from_all R xs (λ i j d before below. h (suc i) (suc j) d (omega arith) (omega arith)))
 
+-- two elements of a list with a first one more, by their places
 pair_at : {X : Type 0} (R : X → X → Type 0) (x : X) (xs : List X) → AllByRecursion (R x) xs → AllPairs R xs
     → (i j : ℕ) (d : X) → i < j → j < length (x ∷ xs) → R (get_or (x ∷ xs) i d) (get_or (x ∷ xs) j d)
 pair_at R x xs first later i zero d before below = absurd (omega arith)
 pair_at R x xs first later zero (suc j) d before below = All-from_recursion (R x) xs first j d (omega arith)
 pair_at R x xs first later (suc i) (suc j) d before below = later i j d (omega arith) (omega arith)
 
+-- and back
 pub all_from_pairs : {X : Type 0} (R : X → X → Type 0) (xs : List X) → Pairs R xs → AllPairs R xs
 all_from_pairs R [] h = λ i j d before below. absurd (omega arith)
 all_from_pairs R (x ∷ xs) h = pair_at R x xs h.0 (all_from_pairs R xs h.1)
@@ -33,18 +36,22 @@ each_kept P Q test gives (x ∷ xs) h = elim (cases_Bool (test x)) [
   | inr fails ↦ rw fails (each_kept P Q test gives xs h.1)
 ]
 
+-- what follows from what holds of each holds of each
 pub each_weaker : {X : Type 0} (P Q : X → Type 0) → ((x : X) → P x → Q x) → (xs : List X) → AllByRecursion P xs → AllByRecursion Q xs
 each_weaker P Q gives [] h = tt
 each_weaker P Q gives (x ∷ xs) h = (gives x h.0, each_weaker P Q gives xs h.1)
 
+-- what follows from two things that hold of each holds of each
 pub each_both : {X : Type 0} (P Q S : X → Type 0) → ((x : X) → P x → Q x → S x) → (xs : List X) → AllByRecursion P xs → AllByRecursion Q xs → AllByRecursion S xs
 each_both P Q S gives [] h k = tt
 each_both P Q S gives (x ∷ xs) h k = (gives x h.0 k.0, each_both P Q S gives xs h.1 k.1)
 
+-- what holds of each of two lists holds of each of both together
 pub each_append : {X : Type 0} (P : X → Type 0) (xs ys : List X) → AllByRecursion P xs → AllByRecursion P ys → AllByRecursion P (xs ++ ys)
 each_append P [] ys h k = k
 each_append P (x ∷ xs) ys h k = (h.0, each_append P xs ys h.1 k)
 
+-- two that a test keeps are related as before
 pub pairs_kept : {X : Type 0} (R : X → X → Type 0) (test : X → Bool) (xs : List X) → Pairs R xs → Pairs R (filter test xs)
 pairs_kept R test [] h = tt
 pairs_kept R test (x ∷ xs) h = elim (cases_Bool (test x)) [
@@ -52,6 +59,7 @@ pairs_kept R test (x ∷ xs) h = elim (cases_Bool (test x)) [
   | inr fails ↦ rw fails (pairs_kept R test xs h.1)
 ]
 
+-- two lists together, where each of the first is so related to each of the second
 pub pairs_append : {X : Type 0} (R : X → X → Type 0) (xs ys : List X) → Pairs R xs → Pairs R ys → AllByRecursion (λ x. AllByRecursion (R x) ys) xs → Pairs R (xs ++ ys)
 pairs_append R [] ys h k across = k
 pairs_append R (x ∷ xs) ys h k across = (each_append (R x) xs ys h.0 across.0, pairs_append R xs ys h.1 k across.1)
@@ -72,6 +80,7 @@ found_passes test (y ∷ xs) x e = elim (cases_Bool (test y)) [
   | inr fails ↦ found_passes test xs x (rw fails at e)
 ]
 
+-- what holds of each element holds of the one that was found
 pub found_has : {X : Type 0} (P : X → Type 0) (test : X → Bool) (xs : List X) (x : X) → AllByRecursion P xs → find test xs ≡ Some x → P x
 found_has P test [] x h e = cc e
 found_has P test (y ∷ xs) x h e = elim (cases_Bool (test y)) [
@@ -83,6 +92,7 @@ found_has P test (y ∷ xs) x h e = elim (cases_Bool (test y)) [
 abbrev pub Across : {X : Type 0} → (X → X → Type 0) → List X → List X → Type 0
 Across R xs ys = AllByRecursion (λ x. AllByRecursion (R x) ys) xs
 
+-- the same of equal lists
 across_as : {X : Type 0} (R : X → X → Type 0) (xs xs' ys ys' : List X) → xs ≡ xs' → ys ≡ ys' → Across R xs' ys' → Across R xs ys
 across_as {X} R xs xs' ys ys' e f h =
     subst (λ (zs : List X). Across R zs ys) (sym e) (subst (λ (zs : List X). Across R xs' zs) (sym f) h)
@@ -107,6 +117,7 @@ across_tests R symmetric test other excludes (x ∷ xs) h =
       ]
     ]
 
+-- what follows from a relation of each two holds of each two
 pub pairs_weaker : {X : Type 0} (R S : X → X → Type 0) → ((x y : X) → R x y → S x y) → (xs : List X) → Pairs R xs → Pairs S xs
 pairs_weaker R S gives [] h = tt
 pairs_weaker R S gives (x ∷ xs) h = (each_weaker (R x) (S x) (gives x) xs h.0, pairs_weaker R S gives xs h.1)

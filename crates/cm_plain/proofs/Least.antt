@@ -32,9 +32,11 @@ lesser_behind Greater one other = refl
 abbrev IsAtLeast : List ℕ → List ℕ → Type 0
 IsAtLeast least key = is_lt (slice_cmp nat_cmp key least) ≡ false
 
+-- the byte order ranks keys
 order : IsStrictWeakOrder (λ (one : List ℕ) (other : List ℕ). is_lt (slice_cmp nat_cmp one other))
 order = ranks_by nat_list_cmp_total (λ (key : List ℕ). key)
 
+-- a key is not below itself
 itself : (key : List ℕ) → IsAtLeast key key
 itself key = ap is_lt (tied_itself nat_list_cmp_total key)
 
@@ -44,6 +46,7 @@ first_by Less one other e = itself one
 first_by Equal one other e = itself one
 first_by Greater one other e = ap is_lt e
 
+-- the same of the second one
 second_by : (answer : Ordering) (one other : List ℕ) → slice_cmp nat_cmp one other ≡ answer → IsAtLeast (min_by_ordering answer one other) other
 second_by Less one other e = order.one_way one other (ap is_lt e)
 second_by Equal one other e = ap is_lt (tied_back nat_list_cmp_total one other e)

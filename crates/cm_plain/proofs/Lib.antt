@@ -1,3 +1,4 @@
+-- The lemmas of the crate.
 pub mod Ranges
 pub mod Each
 pub mod Apart

@@ -39,9 +39,11 @@ pub record IsFit (geo : Geo) (entries : List Placed) (chunks : ℕ) (places : Li
   pub among : Contains places spot.place
   pub free : is_free geo entries spot.place spot.chunk chunks ≡ true
 
+-- a longer list of places has what the shorter one has
 contains_more : (place other : ℕ) (places : List ℕ) → Contains places place → Contains (other ∷ places) place
 contains_more place other places c = (suc c.0, omega (arith, c.1), c.2)
 
+-- the first fit among places, by whether the first of them has room
 by_least : (geo : Geo) (entries : List Placed) (chunks place : ℕ) (places : List ℕ) (spot : Spot)
     → (fit_among geo entries chunks places ≡ Some spot → IsFit geo entries chunks places spot) → (least : Option ℕ) → least_free geo entries chunks place ≡ least
     → option_or (spot_at place least) (fit_among geo entries chunks places) ≡ Some spot → IsFit geo entries chunks (place ∷ places) spot
@@ -56,6 +58,7 @@ by_least geo entries chunks place places spot behind (Some chunk) is e =
       free = found_passes (λ chunk. is_free geo entries place chunk chunks) (range_with_len 0 geo.chunks) chunk is;
     })
 
+-- a first fit is a fit
 pub fit_is : (geo : Geo) (entries : List Placed) (chunks : ℕ) (places : List ℕ) (spot : Spot) → fit_among geo entries chunks places ≡ Some spot → IsFit geo entries chunks places spot
 fit_is geo entries chunks [] spot e = cc e
 fit_is geo entries chunks (place ∷ places) spot e =
@@ -65,6 +68,7 @@ fit_is geo entries chunks (place ∷ places) spot e =
 abbrev pub is_at : List ℕ → Placed → Bool
 is_at key entry = bytes_eq entry.key key
 
+-- entries that are placed have runs
 runs_of : (geo : Geo) (segment : ℕ) (chain : List ℕ) (entries : List Placed) → AllByRecursion (IsPlaced geo segment chain) entries → AllByRecursion (HasRun geo) entries
 runs_of geo segment chain entries placed = each_weaker (IsPlaced geo segment chain) (HasRun geo) (λ entry h. h.run) entries placed
 
@@ -87,6 +91,7 @@ at_fit geo segment state key value spot is e =
       apart = apart_without geo entry key state.entries (fresh_apart geo entry state.entries (runs_of geo segment state.chain state.entries placed) fit.free);
     }
 
+-- a linked place is another than one outside the chain
 differs_from : (place : ℕ) (chain : List ℕ) → AllByRecursion (λ linked. linked ≢ place) chain → (at : ℕ) → Contains chain at → at ≢ place
 differs_from place chain others at c = subst (λ (it : ℕ). it ≢ place) c.2 (All-from_recursion (λ linked. linked ≢ place) chain others c.0 at c.1)
 
@@ -105,6 +110,7 @@ at_new_tier geo segment state key value place is fits short outside =
           (λ other h. apart_places geo other entry h.run.inside inside (differs_from place state.chain (each_other state.chain place outside.unlinked) other.place h.chained)) state.entries placed);
     }
 
+-- what is not, is false
 not_false : (b : Bool) → not b ≡ true → b ≡ false
 not_false false e = refl
 not_false true e = cc e
@@ -167,13 +173,16 @@ at_old geo segment state key value old is e stay =
 record GoesTo (geo : Geo) (state : State) (key value : List ℕ) (room : Room) (spot : Spot) : Type 0 where
   goes : Goes geo (without key state.entries) (chain_for room state.chain) (entry_at key value spot.place spot.chunk)
 
+-- the same at an equal spot
 as_spot : (geo : Geo) (state : State) (key value : List ℕ) (room : Room) (here spot : Spot) → here ≡ spot
     → Goes geo (without key state.entries) (chain_for room state.chain) (entry_at key value here.place here.chunk) → GoesTo geo state key value room spot
 as_spot geo state key value room here spot same goes = subst (GoesTo geo state key value room) same (record { goes = goes })
 
+-- two spots that are there are equal
 some_same : {a b : Spot} → Some a ≡ Some b → a ≡ b
 some_same e = cc e
 
+-- a value goes to a room apart from its old place
 goes_apart : (geo : Geo) (segment : ℕ) (state : State) (key value : List ℕ) (old : Option Placed) (spot : Spot) → IsState geo segment state → Fits geo (length key) (length value)
     → (fit : Option Spot) → first_fit geo state (need geo (length key) (length value)) ≡ fit → spot_in (room_apart geo state.chain fit) old ≡ Some spot
     → GoesTo geo state key value (room_apart geo state.chain fit) spot
@@ -191,6 +200,7 @@ goes_apart geo segment state key value old spot is fits None e at = elim (cases_
   | inr long ↦ let at' : None ≡ Some spot = rw long at at in cc at'
 ]
 
+-- a value goes to its room, beside its old place
 goes_beside : (geo : Geo) (segment : ℕ) (state : State) (key value : List ℕ) (spot : Spot) → IsState geo segment state → Fits geo (length key) (length value)
     → (old : Option Placed) → found key state ≡ old → spot_in (room_beside geo state old (need geo (length key) (length value))) old ≡ Some spot
     → GoesTo geo state key value (room_beside geo state old (need geo (length key) (length value))) spot
@@ -214,6 +224,7 @@ goes_beside geo segment state key value spot is fits (Some old) e at = elim (cas
 other_key : (key : List ℕ) (other : Placed) → is_at key other ≡ false → other.key ≢ key
 other_key key other e same = let h : is_at key other ≡ true = (bytes_eq-Decides other.key key).1 same in cc (sym e ∙ h)
 
+-- the others have other keys
 keys_differ : (key : List ℕ) (entries : List Placed) → AllByRecursion (λ other. other.key ≢ key) (without key entries)
 keys_differ key entries =
     each_kept (λ other. Unit {0}) (λ other. other.key ≢ key) (λ other. not (is_at key other)) (λ other t e. other_key key other (not_false (is_at key other) e)) entries (each_nothing entries)
@@ -222,6 +233,7 @@ keys_differ key entries =
     each_nothing [] = tt
     each_nothing (x ∷ xs) = (tt, each_nothing xs)
 
+-- two entries have different keys
 abbrev Differs : Placed → Placed → Type 0
 Differs entry later = entry.key ≢ later.key
 
@@ -243,6 +255,7 @@ each_with geo P entry entries all one =
     let behind : Placed → Bool = λ other. nat_lt (run_start geo entry) (run_start geo other) in
     each_append P (filter before entries) (entry ∷ filter behind entries) (each_kept P P before (λ x h e. h) entries all) (one, each_kept P P behind (λ x h e. h) entries all)
 
+-- a linked place stays linked
 in_longer : (room : Room) (chain : List ℕ) (at : ℕ) → Contains chain at → Contains (chain_for room chain) at
 in_longer (NewTier place) chain at c = Contains-append_left chain (place ∷ []) at c
 in_longer InPlace chain at c = c

@@ -27,9 +27,11 @@ find_none test low high past = rw (range_end low high past) refl
 pub position_here : (test : ℕ → Bool) (low high : ℕ) → low < high → test low ≡ true → position_or_len test (range_with_len low (high - low)) ≡ 0
 position_here test low high below passes = rw (range_step low high below, passes) refl
 
+-- a place that fails is passed over
 pub position_next : (test : ℕ → Bool) (low high : ℕ) → low < high → test low ≡ false
     → position_or_len test (range_with_len low (high - low)) ≡ 1 + position_or_len test (range_with_len (low + 1) (high - (low + 1)))
 position_next test low high below fails = rw (range_step low high below, fails) refl
 
+-- at the end there is no place
 pub position_none : (test : ℕ → Bool) (low high : ℕ) → high ≤ low → position_or_len test (range_with_len low (high - low)) ≡ 0
 position_none test low high past = rw (range_end low high past) refl

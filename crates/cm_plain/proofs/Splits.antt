@@ -10,11 +10,12 @@ use Rattle.cm_plain.specs.States.{chunks_of, run_end, run_start}
 use Rattle.cm_plain.specs.Changes.{with_entry}
 use Rattle.cm_plain.proofs.Each.{Pairs, each_weaker, pairs_weaker}
 
--- a test that all pass keeps all, one that none passes keeps none
+-- a test that all pass keeps all
 kept_all : {X : Type 0} (test : X → Bool) (xs : List X) → AllByRecursion (λ x. test x ≡ true) xs → filter test xs ≡ xs
 kept_all test [] h = refl
 kept_all test (x ∷ xs) h = rw (h.0, kept_all test xs h.1) refl
 
+-- and one that none passes keeps none
 kept_none : {X : Type 0} (test : X → Bool) (xs : List X) → AllByRecursion (λ x. test x ≡ false) xs → filter test xs ≡ []
 kept_none test [] h = refl
 kept_none test (x ∷ xs) h = rw (h.0, kept_none test xs h.1) refl
@@ -24,6 +25,7 @@ pub record IsCut {X : Type 0} (start : X → ℕ) (at : ℕ) (xs : List X) : Typ
   pub low : take (length (filter (λ x. nat_lt (start x) at) xs)) xs ≡ filter (λ x. nat_lt (start x) at) xs
   pub high : drop (length (filter (λ x. nat_lt (start x) at) xs)) xs ≡ filter (λ x. nat_lt at (start x)) xs
 
+-- a rising list has that cut at a number that is none of its
 pub cut_is : {X : Type 0} (start : X → ℕ) (at : ℕ) (xs : List X) → Pairs (λ x y. start x ≤ start y) xs → AllByRecursion (λ x. start x ≢ at) xs → IsCut start at xs
 cut_is start at [] rising apart = record { low = refl; high = refl }
 cut_is start at (x ∷ xs) rising apart =

@@ -22,6 +22,7 @@ use Rattle.cm_plain.specs.States.{run_start}
 use Rattle.std.specs.List.{All}
 use Rattle.cm_plain.proofs.Placing.{chain_for, placed_state, starts_apart}
 
+-- two spots that are there are equal
 some_same : {a b : Spot} → Some a ≡ Some b → a ≡ b
 some_same e = cc e
 
@@ -38,6 +39,7 @@ abbrev pub state_with : Geo → State → List ℕ → List ℕ → Room → Spo
 state_with geo state key value room spot =
     record { chain = chain_for room state.chain; entries = with_entry geo (entry_at key value spot.place spot.chunk) (without key state.entries) }
 
+-- the state after a change that places a value is the one with the value in its room
 after_is : (geo : Geo) (state : State) (op : Op) (key value : List ℕ) (room : Room) (old : Option Placed) (chunks : ℕ) (spot : Spot) → spot_in room old ≡ Some spot
     → after geo (placing geo op key value old room chunks) state ≡ state_with geo state key value room spot
 after_is geo state op key value InPlace None chunks spot e = cc e
@@ -51,6 +53,7 @@ abbrev pub reply_beside : Bool → Reply
 reply_beside false = reply.New
 reply_beside true = reply.Replaced
 
+-- the reply by the kind of a change is the one by whether the key had an entry
 reply_is : (room : Room) (old : Option Placed) (op : Op) (key : List ℕ) → reply_of (kind_in room old) op key ≡ reply_beside (is_some old)
 reply_is room None op key = refl
 reply_is InPlace (Some old) op key = refl
@@ -58,12 +61,14 @@ reply_is (Elsewhere there) (Some old) op key = refl
 reply_is (NewTier place) (Some old) op key = refl
 reply_is Nowhere (Some old) op key = refl
 
+-- a room with a chunk in it is one
 there_is : (room : Room) (old : Option Placed) (spot : Spot) → spot_in room old ≡ Some spot → is_nowhere room ≡ false
 there_is InPlace old spot e = refl
 there_is (Elsewhere there) old spot e = refl
 there_is (NewTier place) old spot e = refl
 there_is Nowhere old spot e = cc e
 
+-- both replies are ones to a change
 is_change_beside : (had : Bool) → is_change (reply_beside had) ≡ true
 is_change_beside true = refl
 is_change_beside false = refl
@@ -96,12 +101,14 @@ segment_with seen key value placing = record {
   state = state_with seen.geo seen.state key value placing.room placing.spot;
 }
 
+-- the run of a placed value begins where no other does
 pub placing_apart : (seen : Segment) (key value : List ℕ) (placing : Placing) → IsSegment seen → Fits seen.geo (length key) (length value)
     → IsPlacing seen.geo seen.state key (length value) placing
     → All (λ other. run_start seen.geo other ≢ run_start seen.geo (entry_at key value placing.spot.place placing.spot.chunk)) (without key seen.state.entries)
 placing_apart seen key value placing is fits placed =
     starts_apart seen.geo seen.segment seen.state key value placing.spot is.rests fits placing.room placed.room_is placed.spot_is
 
+-- the segment after a value went to its room is one
 pub is_segment_with : (seen : Segment) (key value : List ℕ) (placing : Placing) → IsSegment seen → Fits seen.geo (length key) (length value)
     → segment_of_key seen.geo key ≡ seen.segment → IsPlacing seen.geo seen.state key (length value) placing → seen.number ≢ last_number
     → IsSegment (segment_with seen key value placing)
@@ -123,6 +130,7 @@ same_segment seen key value placing links chain entries placed links_is chain_is
     let e : chain ≡ chain_for placing.room seen.state.chain = rw links_is at chain_is' ∙ sym (chain_is placing.room (found key seen.state) placing.spot seen.state.chain placed.spot_is) in
     rw (e, entries_is) refl
 
+-- it answers each operation that places this value for this key
 pub places_with : (seen : Segment) (grant : Bool) (key value : List ℕ) (placing : Placing) (answer : Reply) → IsSegment seen → Fits seen.geo (length key) (length value)
     → segment_of_key seen.geo key ≡ seen.segment → IsPlacing seen.geo seen.state key (length value) placing → (seen.number == last_number) ≡ false
     → (is_new_tier placing.room && not grant) ≡ false → answer ≡ reply_beside placing.replaces → Places seen (segment_with seen key value placing) grant key value answer

@@ -17,6 +17,7 @@ use Rattle.cm_plain.specs.Segments.{Answered, IsLeastKey, Segment, Sweeps, Sweep
 abbrev any_with : List ℕ → List Placed → Bool
 any_with prefix entries = list_any (λ entry. has_prefix prefix entry.key) entries
 
+-- no key has the prefix where none of the entries has it
 none_any : (prefix : List ℕ) (entries : List Placed) → AllByRecursion (λ entry. has_prefix prefix entry.key ≡ false) entries → any_with prefix entries ≡ false
 none_any prefix [] h = refl
 none_any prefix (entry ∷ entries) h = rw h.0 (none_any prefix entries h.1)

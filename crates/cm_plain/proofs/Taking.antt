@@ -40,13 +40,15 @@ is_taken (Count segment) changed = refl
 is_taken (ListAll segment) changed = refl
 is_taken (Sweep segment prefix) changed = refl
 
--- the state and the segment without a key's entry
+-- the state without a key's entry
 abbrev pub state_without : State → List ℕ → State
 state_without state key = record { chain = state.chain; entries = without key state.entries }
 
+-- the segment after a key's entry was taken away
 abbrev pub segment_without : Segment → List ℕ → Segment
 segment_without seen key = record { geo = seen.geo; segment = seen.segment; number = seen.number + 1; state = state_without seen.state key }
 
+-- it is one
 pub is_segment_without : (seen : Segment) (key : List ℕ) → IsSegment seen → seen.number ≢ last_number → IsSegment (segment_without seen key)
 is_segment_without seen key is counts = record {
   rests = taken_state seen.geo seen.segment seen.state key is.rests;
@@ -78,6 +80,7 @@ step_worn seen grant key op worn takes =
     let course_is : course seen.geo seen.state seen.number grant op ≡ is_worn = rw (takes.met, no_room seen.geo seen.state op takes.taken, worn) refl in
     subst (λ (it : Course). StepBy it seen.geo seen.segment seen.state op seen.state (reply_to_taking false op key)) (sym course_is) (refl, refl)
 
+-- it answers each operation that takes this key's entry away
 pub takes_without : (seen : Segment) (key : List ℕ) → IsSegment seen → (seen.number == last_number) ≡ false → Takes seen (segment_without seen key) key true
 takes_without seen key is counts = record {
   answers = λ op grant takes. record {
@@ -88,6 +91,7 @@ takes_without seen key is counts = record {
   };
 }
 
+-- where no number is left, the segment as it is answers them
 pub takes_worn : (seen : Segment) (key : List ℕ) → (seen.number == last_number) ≡ true → Takes seen seen key false
 takes_worn seen key worn = record {
   answers = λ op grant takes. record {
@@ -108,6 +112,7 @@ is_there : (value : Option (List ℕ)) → None ≡ (if is_some value then None 
 is_there None e = cc e
 is_there (Some value) e = refl
 
+-- what is answered to a removal
 pub remove_answered : (old new : Segment) (grant : Bool) (key : List ℕ) (taken : Bool) → None ≡ (if is_some (value_of key old.state) then None else Some reply.Missing)
     → Takes old new key taken → Answered old new grant (Remove key) (if taken then reply.Removed else reply.Worn)
 remove_answered old new grant key taken none takes =
@@ -124,6 +129,7 @@ is_expected value expected e = elim (cases_Bool (is_value value expected)) [
   | inr differs ↦ let no = rw differs at e in cc no
 ]
 
+-- what is answered to a removal where a value is expected
 pub remove_if_answered : (old new : Segment) (grant : Bool) (key expected : List ℕ) (taken : Bool)
     → (let value = value_of key old.state in None ≡ (if is_value value expected then None else Some (unmet value)))
     → Takes old new key taken → Answered old new grant (RemoveIf key expected) (if taken then reply.Removed else reply.Worn)

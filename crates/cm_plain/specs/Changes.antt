@@ -50,7 +50,7 @@ kind_in room None = kind.Fresh
 kind_in InPlace (Some old) = kind.InPlace
 kind_in room (Some old) = kind.Relocate
 
--- the change that places a value for a key, and the one that takes a key's entry away
+-- the change that places a value for a key
 abbrev pub placing : Geo → Op → List ℕ → List ℕ → Option Placed → Room → ℕ → Change
 placing geo op key value old room chunks = record {
   op = op;
@@ -62,6 +62,7 @@ placing geo op key value old room chunks = record {
   link = is_new_tier room;
 }
 
+-- the change that takes a key's entry away
 abbrev pub taking : Geo → Op → List ℕ → Option Placed → Change
 taking geo op key old = record {
   op = op;
@@ -73,6 +74,7 @@ taking geo op key old = record {
   link = false;
 }
 
+-- the change of a key that places this value, or none
 abbrev pub change_of : Geo → State → Op → List ℕ → Option (List ℕ) → Change
 change_of geo state op key None = taking geo op key (found key state)
 change_of geo state op key (Some value) =
@@ -96,10 +98,12 @@ with_entry geo entry entries =
 abbrev pub entry_at : List ℕ → List ℕ → ℕ → ℕ → Placed
 entry_at key value place chunk = record { place = place; chunk = chunk; key = key; value = value }
 
+-- the entries after a change, from those of other keys
 abbrev pub entries_after : Geo → Change → Option Run → List Placed → List Placed
 entries_after geo change None others = others
 entries_after geo change (Some run) others = with_entry geo (entry_at change.key change.value run.place run.chunk) others
 
+-- the chain after a change
 abbrev pub chain_after : Bool → Option Run → List ℕ → List ℕ
 chain_after true (Some run) chain = chain ++ run.place ∷ []
 chain_after link run chain = chain

@@ -36,6 +36,7 @@ IsAnswerOf geo segment before states most call =
     (i : ℕ) × (i ≤ most) × (call.receipt.number ≡ before + i)
     × Step geo segment (states i) (before + i) (granted call.receipt.reply) call.op (states i) call.receipt.reply
 
+-- a call is in the history, by whether it changes the segment
 abbrev pub IsIn : Geo → ℕ → ℕ → (ℕ → State) → ℕ → Bool → Call → Type 0
 IsIn geo segment before states most true call = IsChangeOf geo segment before states call
 IsIn geo segment before states most false call = IsAnswerOf geo segment before states most call

@@ -1,3 +1,4 @@
+-- The definitions that contracts cite.
 pub mod Limits
 pub mod States
 pub mod Rooms

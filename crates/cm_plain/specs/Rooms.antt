@@ -22,6 +22,7 @@ is_free geo entries place chunk chunks = nat_le (chunk + chunks) geo.chunks && n
 abbrev pub least_free : Geo → List Placed → ℕ → ℕ → Option ℕ
 least_free geo entries chunks place = find (λ chunk. is_free geo entries place chunk chunks) (range_with_len 0 geo.chunks)
 
+-- a chunk at a place
 abbrev pub spot_at : ℕ → Option ℕ → Option Spot
 spot_at place chunk = option_map (λ chunk. record { place = place; chunk = chunk }) chunk
 
@@ -39,6 +40,7 @@ first_fit geo state chunks = fit_among geo state.entries chunks state.chain
 abbrev pub is_unlinked : List ℕ → ℕ → Bool
 is_unlinked chain place = not (list_any (λ linked. linked == place) chain)
 
+-- the lowest of these places; the number of tiers where there is none
 abbrev pub lowest_unlinked : Geo → List ℕ → ℕ
 lowest_unlinked geo chain = position_or_len (is_unlinked chain) (range_with_len 0 geo.tiers)
 
@@ -53,6 +55,7 @@ abbrev pub room_apart : Geo → List ℕ → Option Spot → Room
 room_apart geo chain (Some spot) = Elsewhere spot
 room_apart geo chain None = if nat_lt (length chain) geo.tiers then NewTier (lowest_unlinked geo chain) else Nowhere
 
+-- where a value goes, beside its key's old entry: there, if it can stay
 abbrev pub room_beside : Geo → State → Option Placed → ℕ → Room
 room_beside geo state None chunks = room_apart geo state.chain (first_fit geo state chunks)
 room_beside geo state (Some old) chunks =
@@ -70,11 +73,12 @@ spot_in (Elsewhere spot) old = Some spot
 spot_in (NewTier place) old = Some (record { place = place; chunk = 0 })
 spot_in Nowhere old = None
 
--- whether a value goes to a new tier, and whether it goes nowhere
+-- whether a value goes to a new tier
 abbrev pub is_new_tier : Room → Bool
 is_new_tier (NewTier place) = true
 is_new_tier _ = false
 
+-- whether it goes nowhere
 abbrev pub is_nowhere : Room → Bool
 is_nowhere Nowhere = true
 is_nowhere _ = false

@@ -21,10 +21,11 @@ pub record State : Type 0 where
 abbrev pub chunks_of : Geo → Placed → ℕ
 chunks_of geo entry = need geo (length entry.key) (length entry.value)
 
--- the first chunk of an entry's run and the one after its last, counted over all places of the segment
+-- the first chunk of an entry's run, counted over all places of the segment
 abbrev pub run_start : Geo → Placed → ℕ
 run_start geo entry = entry.place * geo.chunks + entry.chunk
 
+-- the chunk after an entry's last one, counted over all places of the segment
 abbrev pub run_end : Geo → Placed → ℕ
 run_end geo entry = run_start geo entry + chunks_of geo entry
 
@@ -61,16 +62,19 @@ one_tier = record { chain = 0 ∷ []; entries = [] }
 abbrev pub found_among : List ℕ → List Placed → Option Placed
 found_among key entries = find (λ entry. bytes_eq entry.key key) entries
 
+-- the entry of a key in a state
 abbrev pub found : List ℕ → State → Option Placed
 found key state = found_among key state.entries
 
--- the value of a key
+-- the value of an entry
 abbrev pub value_in : Option Placed → Option (List ℕ)
 value_in entry = option_map (λ entry. entry.value) entry
 
+-- the value of a key in a state
 abbrev pub value_of : List ℕ → State → Option (List ℕ)
 value_of key state = value_in (found key state)
 
+-- the pair of an entry
 abbrev pub pair_of : Placed → Pair
 pair_of entry = record { key = entry.key; value = entry.value }
 

@@ -46,15 +46,17 @@ would_change (Count segment) state = false
 would_change (ListAll segment) state = false
 would_change (Sweep segment prefix) state = list_any (λ entry. has_prefix prefix entry.key) state.entries
 
--- the answers from a key's value, or from its want
+-- the answer that tells a key's value, or that it isn't there
 abbrev pub got : Option (List ℕ) → Reply
 got None = reply.Missing
 got (Some value) = reply.Value value
 
+-- the answer where a value is there and stays
 abbrev pub kept : Option (List ℕ) → Reply
 kept None = reply.Missing
 kept (Some value) = reply.Kept value
 
+-- the answer where a value is not the expected one
 abbrev pub unmet : Option (List ℕ) → Reply
 unmet None = reply.Missing
 unmet (Some value) = reply.Differs
@@ -126,6 +128,7 @@ course_in room number grant =
 abbrev pub course : Geo → State → ℕ → Bool → Op → Course
 course geo state number grant op = if would_change op state then course_in (room_wanted geo state op) number grant else stays
 
+-- what a course leads to: the state after it, and the reply
 abbrev pub StepBy : Course → Geo → ℕ → State → Op → State → Reply → Type 0
 StepBy stays geo segment state op later answer = (later ≡ state) × AnswersUnchanged op state answer
 StepBy is_full geo segment state op later answer = (later ≡ state) × (answer ≡ reply.FullChain)

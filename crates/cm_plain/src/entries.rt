@@ -1,6 +1,6 @@
 //! Changes of a segment's entries.
 
-ghost use Rattle.std.specs.Prelude.{count_by, nat_lt, ◌≡◌, ◌≢◌, ◌++◌, ◌∷◌, [], ◌<◌, ◌≤◌, All, AllPairs, OnOk, OnErr, length, vec_len, vec_capacity, if◌then◌else◌};
+ghost use Rattle.std.specs.Prelude.{count_by, nat_lt, ◌≡◌, ◌≢◌, ◌++◌, ◌∷◌, [], ◌<◌, ◌≤◌, All, AllPairs, OnOk, OnErr, vec_len, vec_capacity, if◌then◌else◌};
 ghost use Rattle.cm_plain.specs.States.{run_end as end_of, run_start as start_of};
 ghost use Rattle.cm_plain.specs.Changes.{with_entry, without};
 

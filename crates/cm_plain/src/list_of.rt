@@ -1,6 +1,6 @@
 //! A list inside shared data.
 
-ghost use Rattle.std.specs.Prelude.{◌≡◌, ◌++◌, ◌∷◌, [], List, OnOk, OnErr, length};
+ghost use Rattle.std.specs.Prelude.{◌≡◌, List};
 
 use crate::stop::NoMemory;
 use std::marker::Model;

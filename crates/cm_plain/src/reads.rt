@@ -1,7 +1,6 @@
 //! Answers that change nothing.
 
 ghost use Rattle.std.specs.Prelude.{◌≡◌, ◌<◌, ◌^◌, IfOk, length, map, MatchOption, All, false, Some, None, if◌then◌else◌, is_some};
-ghost use Rattle.std.specs.List.Sorted.{IsPermutation};
 ghost use Rattle.std.specs.Option.{option_map};
 ghost use Rattle.cm_plain.specs.States.{ListsEntries, found_among, pair_of, value_in};
 ghost use Rattle.cm_plain.specs.Steps.{got as got_of, has_prefix, is_value as is_value_in, unmet as unmet_of};

@@ -30,7 +30,7 @@ impl Model for PairList {
 impl PairList {
     ghost use Rattle.std.specs.Prelude.{◌≡◌, ◌==◌, ◌<◌, ◌^◌, length, slice_get, Some};
 
-    /// The list of a `Vec`'s pairs. Takes no memory.
+    /// The list of a `Vec`'s pairs, in their order. Takes no memory.
     pub fn from_vec(pairs: Vec<Pair>) -> PairList
         requires { length pairs.items < 2 ^ 32 }
         ensures { result ≡ pairs.items }

@@ -3,7 +3,7 @@
 ghost use Rattle.std.specs.Prelude.{◌≡◌, ◌+◌, ◌^◌, ◌<◌, ◌≤◌, All, length, Option};
 ghost use Rattle.std.specs.List.{list_any};
 ghost use Rattle.std.specs.Option.{option_copied, ForSome};
-ghost use Rattle.cm_plain.specs.States.{HasRun, State, chunks_of as chunks_in, found_among};
+ghost use Rattle.cm_plain.specs.States.{HasRun, chunks_of as chunks_in, found_among};
 ghost use Rattle.cm_plain.specs.Rooms.{can_stay as can_stay_in, first_fit as first_fit_in, is_free as is_free_in, least_free as least_free_in, lowest_unlinked as lowest_unlinked_in, meets as meets_in, is_new_tier, room_beside, spot_in as spot_of};
 
 use crate::placed::Placed;

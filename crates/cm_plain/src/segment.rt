@@ -38,14 +38,15 @@ impl Model for PlainSegment {
 }
 
 impl PlainSegment {
-    ghost use Rattle.std.specs.Prelude.{◌≡◌, ◌-◌, ◌<◌, true, IfOk, OnErr, length};
+    ghost use Rattle.std.specs.Prelude.{◌≡◌, ◌-◌, ◌<◌, IfOk, OnErr, length};
     ghost use Rattle.cm_geo.specs.Hash.{segment_of_key};
     ghost use Rattle.cm_geo.specs.Need.{Fits};
     ghost use Rattle.cm_plain.specs.Limits.{KeepsLimits, segment_of};
     ghost use Rattle.cm_plain.specs.Segments.{Answered, Places, Sweeps, SweepsLeast, Takes};
     ghost use Rattle.cm_plain.specs.States.{one_tier};
 
-    /// One empty tier of a segment, which took no change. Takes memory.
+    /// One empty tier of a segment, which took no change; the segment is one of the geometry's. Takes
+    /// memory: NoMemory where none is left, and no other error.
     pub fn new(alloc: Global, geo: &Geo, segment: u32) -> Result<PlainSegment, NoMemory>
         requires { segment < geo.now.segments }
         ensures { IfOk result (λ made. made ≡ record { geo = geo.now; segment = segment; number = 0; state = one_tier }) }
@@ -60,8 +61,12 @@ impl PlainSegment {
     }
 
     /// Answers an operation by one step of the bounded map, with or without the grant of a further tier.
-    /// A sweep takes one step, which removes the least key with its prefix in byte order. Takes memory;
-    /// after NoMemory nothing changed.
+    /// A sweep takes one step, which removes the least key with its prefix in byte order.
+    ///
+    /// The operation keeps the limits of the geometry, and its key, or the number that it names, is of
+    /// this segment. A change takes the next number. Where a change would be made and can't be, the reply
+    /// is the first of FullChain, Worn and FullSpent that applies, and nothing changed. Takes memory:
+    /// NoMemory where none is left, and no other error; after it nothing changed.
     pub fn answer(&mut self, alloc: Global, op: &Op, grant: bool) -> Result<Reply, NoMemory>
         requires limits { KeepsLimits self.old.geo op.now }
         requires here { segment_of self.old.geo op.now ≡ self.old.segment }
@@ -147,7 +152,7 @@ impl PlainSegment {
         true
     }
 
-    /// Places a value for a key.
+    /// Places a value for a key, or tells why it can't be placed. Takes memory, before anything changes.
     fn place(
         &mut self,
         alloc: Global,

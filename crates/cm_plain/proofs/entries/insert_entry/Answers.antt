@@ -1,3 +1,4 @@
+-- An entry that is put in at the number of those before it stands in order.
 use Rattle.std.proofs.Common.{◌≡◌, ◌∙◌, ℕ, Bool, ap, length, filter, nat_lt, sym, rules}
 use Rattle.cm_plain.specs.declared.placed.Placed.{Placed}
 use Rattle.cm_plain.specs.States.{run_start}

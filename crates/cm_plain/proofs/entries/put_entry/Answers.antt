@@ -1,3 +1,4 @@
+-- The entries without the key rise as they did.
 use Rattle.cm_plain.proofs.entries.put_entry.Goals as goal
 
 pub insert_entry-requires-clause-rising : goal.insert_entry-requires-clause-rising

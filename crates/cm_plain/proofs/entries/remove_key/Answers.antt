@@ -1,3 +1,4 @@
+-- What is kept is what has another key.
 use Rattle.std.proofs.Common.{not, rules}
 use Rattle.std.specs.Str.{bytes_eq}
 use Rattle.std.proofs.lemmas.Fn.{filter_same}

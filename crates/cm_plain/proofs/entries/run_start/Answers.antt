@@ -1,3 +1,4 @@
+-- The first chunk of a run fits 64 bits.
 use Rattle.std.proofs.Common.{◌≤◌, arith}
 use Rattle.std.proofs.Math.Nat.{mul-le-mul_left}
 use Rattle.cm_geo.proofs.Ranges.{chunks_range}

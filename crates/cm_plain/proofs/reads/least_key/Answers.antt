@@ -1,3 +1,4 @@
+-- The least of the keys with the prefix is what the chain of iterators gives.
 use Rattle.std.proofs.Common.{rules, tests}
 use Rattle.std.specs.Ordering.{min_by_ordering, nat_cmp}
 use Rattle.std.specs.Cmp.Lexicographic.{slice_cmp}

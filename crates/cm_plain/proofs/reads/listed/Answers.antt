@@ -1,3 +1,4 @@
+-- The pairs are in the order by which they were sorted.
 use Rattle.std.proofs.Common.{◌≡◌, Bool, rules, sym}
 use Rattle.std.specs.Ordering.{is_lt, nat_cmp}
 use Rattle.std.specs.Cmp.Lexicographic.{slice_cmp}

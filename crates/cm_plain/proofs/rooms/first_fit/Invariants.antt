@@ -1,3 +1,4 @@
+-- The tiers that were passed over have no room.
 use Rattle.std.proofs.Common.{◌≡◌, drop}
 use Rattle.cm_plain.specs.Rooms.{fit_among}
 use Rattle.cm_plain.proofs.rooms.first_fit.Given as goal

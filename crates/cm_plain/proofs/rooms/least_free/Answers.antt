@@ -1,3 +1,4 @@
+-- The first chunk at which so many are free is the answer.
 use Rattle.std.proofs.Common.{◌≡◌, ◌∙◌, ℕ, Bool, sym, refl, arith, ◌-◌, true, false}
 use Rattle.cm_plain.specs.Rooms.{is_free}
 use Rattle.cm_plain.proofs.Ranges.{find_here, find_next}

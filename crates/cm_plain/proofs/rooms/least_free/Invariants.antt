@@ -1,3 +1,4 @@
+-- No run of free chunks begins at a chunk that was passed over.
 use Rattle.std.proofs.Common.{◌≡◌, ◌-◌, find}
 use Rattle.std.specs.List.{range_with_len}
 use Rattle.cm_plain.specs.Rooms.{is_free, least_free}

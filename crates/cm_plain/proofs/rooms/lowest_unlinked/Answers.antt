@@ -1,3 +1,4 @@
+-- A place that is linked is passed over, and the first one that is not is the answer.
 use Rattle.std.proofs.Common.{◌≡◌, ◌∙◌, ℕ, not, sym, ap, arith, true, false}
 use Rattle.std.specs.List.{position_or_len, range_with_len}
 use Rattle.cm_plain.specs.Rooms.{is_unlinked}

@@ -1,3 +1,4 @@
+-- The places that were passed over are linked.
 use Rattle.std.proofs.Common.{◌≡◌, ◌+◌, ◌-◌}
 use Rattle.std.specs.List.{position_or_len, range_with_len}
 use Rattle.cm_plain.specs.Rooms.{is_unlinked}

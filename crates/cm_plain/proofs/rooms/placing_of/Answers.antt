@@ -1,3 +1,4 @@
+-- An entry that was found has a run.
 use Rattle.std.proofs.Common.{◌∙◌, sym}
 use Rattle.std.proofs.lemmas.List.Elements.{recursion_from_All}
 use Rattle.cm_plain.specs.States.{HasRun}

@@ -1,3 +1,4 @@
+-- A value that was placed was placed by one step.
 use Rattle.std.proofs.Common.{◌≡◌, ◌∙◌, ◌==◌, ◌&&◌, length, false, not, sym, ap, subst, arith, refl}
 use Rattle.std.proofs.lemmas.Bool.Decides.{nat_tests}
 use Rattle.cm_plain.specs.States.{State}
