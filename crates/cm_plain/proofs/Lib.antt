@@ -10,3 +10,5 @@ pub mod Least
 pub mod Taking
 pub mod Sweeping
 pub mod Counted
+pub mod Standing
+pub mod Telling

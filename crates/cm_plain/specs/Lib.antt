@@ -7,3 +7,8 @@ pub mod Steps
 pub mod History
 pub mod Segments
 pub mod Placings
+pub mod Slots
+pub mod Readings
+pub mod Linked
+pub mod Lawful
+pub mod Torn

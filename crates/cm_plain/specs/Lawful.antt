@@ -1,0 +1,92 @@
+-- How the words of a segment stand for a state while no change is under way (own; the slot law is after Chronicle Map).
+use Rattle.std.specs.Prelude.{ℕ, ◌≡◌, ◌≢◌, ◌+◌, ◌-◌, ◌*◌, ◌/◌, ◌%◌, ◌<◌, ◌≤◌, ◌==◌, ◌↔◌, false, List, length, filter, All, Contains, IsBitSet, Some, None}
+use Rattle.cm_geo.specs.declared.geo.Geo.{Geo}
+use Rattle.cm_geo.specs.Addresses.{bits_at, tier_at}
+use Rattle.cm_geo.specs.Hash.{home_in}
+use Rattle.cm_plain.specs.declared.placed.Placed.{Placed}
+use Rattle.cm_plain.specs.States.{IsState, State, chunks_of}
+use Rattle.cm_plain.specs.Steps.{last_number}
+use Rattle.cm_plain.specs.Slots.{IsPointedOnce, Slot, slot_for, slot_in, word_at}
+use Rattle.cm_plain.specs.Readings.{Stands}
+use Rattle.cm_plain.specs.Linked.{IsZero, linked}
+
+-- the state has an entry at this place
+pub record IsAt (state : State) (place : ℕ) (placed : Placed) : Type 0 where
+  pub there : Contains state.entries placed
+  pub place_is : placed.place ≡ place
+
+-- the slot is that of an entry at this place
+pub record IsSlotOf (geo : Geo) (state : State) (place : ℕ) (slot : Slot) : Type 0 where
+  pub placed : Placed
+  pub at : IsAt state place placed
+  pub slot_is : slot ≡ slot_for geo placed.key placed.chunk
+
+-- the steps from a slot to another, upwards and from the last to the first
+abbrev pub steps_between : Geo → ℕ → ℕ → ℕ
+steps_between geo from to = (to + 2 * geo.chunks - from) % (2 * geo.chunks)
+
+-- the slot so many steps behind one
+abbrev pub slot_behind : Geo → ℕ → ℕ → ℕ
+slot_behind geo from steps = (from + steps) % (2 * geo.chunks)
+
+-- no slot from the home of a slot's fingerprint on to that slot is empty
+abbrev pub IsReached : Geo → List ℕ → ℕ → ℕ → Slot → Type 0
+IsReached geo words place number slot =
+    (steps : ℕ) → steps < steps_between geo (home_in geo slot.fingerprint) number
+    → slot_in geo words place (slot_behind geo (home_in geo slot.fingerprint) steps) ≢ None
+
+-- a chunk lies in the run of an entry at this place
+pub record IsTaken (geo : Geo) (state : State) (place chunk : ℕ) : Type 0 where
+  pub placed : Placed
+  pub at : IsAt state place placed
+  pub begun : placed.chunk ≤ chunk
+  pub not_ended : chunk < placed.chunk + chunks_of geo placed
+
+-- the bit of a chunk
+abbrev pub HasBit : Geo → List ℕ → ℕ → ℕ → Type 0
+HasBit geo words place chunk = IsBitSet (word_at words (bits_at geo place (chunk / 64))) (chunk % 64)
+
+-- the words of a chained tier tell the state's entries there
+pub record TierTells (geo : Geo) (words : List ℕ) (state : State) (place : ℕ) : Type 0 where
+  -- each slot that isn't empty is an entry's
+  pub slots : (number : ℕ) (slot : Slot) → number < 2 * geo.chunks → slot_in geo words place number ≡ Some slot → IsSlotOf geo state place slot
+  -- the slot law
+  pub reached : (number : ℕ) (slot : Slot) → number < 2 * geo.chunks → slot_in geo words place number ≡ Some slot → IsReached geo words place number slot
+  -- the bits that are set are those of the chunks in runs
+  pub bits : (chunk : ℕ) → chunk < geo.chunks → (HasBit geo words place chunk ↔ IsTaken geo state place chunk)
+  -- the number of entries
+  pub count : word_at words (tier_at geo place + 1) ≡ length (filter (λ placed. placed.place == place) state.entries)
+
+-- the words of a segment tell a state: its chain, its entries and nothing else
+pub record Tells (geo : Geo) (segment : ℕ) (words : List ℕ) (state : State) : Type 0 where
+  pub is_state : IsState geo segment state
+  pub whole : (linked geo words).cut ≡ false
+  pub chain : (linked geo words).places ≡ state.chain
+  pub tiers : All (TierTells geo words state) state.chain
+  -- each entry stands where it is placed, and has just one slot
+  pub stand : (placed : Placed) → Contains state.entries placed → Stands geo words placed
+  pub pointed : (placed : Placed) → Contains state.entries placed → IsPointedOnce geo words placed.place placed.key placed.chunk
+  pub count : word_at words 2 ≡ length state.entries
+  pub unlinked : (place : ℕ) → place < geo.tiers → (Contains state.chain place → ⊥) → IsZero geo words place
+
+-- the third and the fourth word of a tier's head are 0
+pub record EndsHead (geo : Geo) (words : List ℕ) (place : ℕ) : Type 0 where
+  pub third : word_at words (tier_at geo place + 2) ≡ 0
+  pub fourth : word_at words (tier_at geo place + 3) ≡ 0
+
+-- the words of a segment stand for a state, apart from the lock word and the change number
+pub record LawfulApart (geo : Geo) (segment : ℕ) (words : List ℕ) (state : State) : Type 0 where
+  pub fourth : word_at words 3 ≡ 0
+  pub heads : All (EndsHead geo words) state.chain
+  pub tells : Tells geo segment words state
+
+-- the words of a quiet segment after so many changes stand for a state
+pub record Lawful (geo : Geo) (segment : ℕ) (words : List ℕ) (number : ℕ) (state : State) : Type 0 where
+  pub lock : word_at words 0 ≡ 0
+  pub number_is : word_at words 1 ≡ 2 * number
+  pub number_few : number ≤ last_number
+  pub apart : LawfulApart geo segment words state
+
+-- the words of a segment in use stand for a state while no change is under way
+unfoldable pub Resting : Geo → ℕ → List ℕ → State → Type 0
+Resting geo segment words state = LawfulApart geo segment words state

@@ -1,0 +1,83 @@
+-- What stands in the words of a segment (own): its entries, and why none stands at a chunk.
+use Rattle.std.specs.Prelude.{ℕ, ◌≡◌, ◌+◌, ◌-◌, ◌*◌, ◌/◌, ◌%◌, ◌^◌, ◌==◌, ◌&&◌, not, Bool, List, ◌++◌, length, nat_le, replicate, take, drop, flat_map, if◌then◌else◌}
+use Rattle.std.specs.List.{list_all}
+use Rattle.std.specs.Int.{to_le_bytes, w64}
+use Rattle.cm_geo.specs.declared.geo.Geo.{Geo}
+use Rattle.cm_geo.specs.Addresses.{chunk_at}
+use Rattle.cm_geo.specs.Hash.{hash}
+use Rattle.cm_geo.specs.Need.{need, parts_for}
+use Rattle.cm_plain.specs.declared.placed.Placed.{Placed}
+use Rattle.cm_plain.specs.declared.reply.Pair.{Pair}
+use Rattle.cm_plain.specs.States.{pair_of}
+use Rattle.cm_plain.specs.Slots.{word_at}
+
+-- the bytes of words, 8 a word, the lowest first
+abbrev pub bytes_of : List ℕ → List ℕ
+bytes_of words = flat_map (to_le_bytes w64) words
+
+-- bytes filled with zeros to whole words
+abbrev pub filled : List ℕ → List ℕ
+filled bytes = bytes ++ replicate (8 * parts_for 8 (length bytes) - length bytes) 0
+
+-- the first word of an entry: the length of its key, and 2^32 times that of its value
+abbrev pub head_of : List ℕ → List ℕ → ℕ
+head_of key value = length key + 2 ^ 32 * length value
+
+abbrev pub key_len : ℕ → ℕ
+key_len head = head % 2 ^ 32
+
+abbrev pub value_len : ℕ → ℕ
+value_len head = head / 2 ^ 32
+
+-- the bytes behind a chunk's first two words: so many words, from a word on
+abbrev pub bytes_at : Geo → List ℕ → ℕ → ℕ → ℕ → ℕ → List ℕ
+bytes_at geo words place chunk from count = bytes_of (take count (drop (chunk_at geo place chunk + 2 + from) words))
+
+-- the bytes of the key's words and of the value's, as the first word tells their lengths
+abbrev pub key_bytes : Geo → List ℕ → ℕ → ℕ → ℕ → List ℕ
+key_bytes geo words place chunk head = bytes_at geo words place chunk 0 (parts_for 8 (key_len head))
+
+abbrev pub value_bytes : Geo → List ℕ → ℕ → ℕ → ℕ → List ℕ
+value_bytes geo words place chunk head =
+    bytes_at geo words place chunk (parts_for 8 (key_len head)) (parts_for 8 (value_len head))
+
+-- the lengths may be stored, and the run lies in the tier
+abbrev pub lengths_fit : Geo → ℕ → ℕ → Bool
+lengths_fit geo chunk head =
+    nat_le 1 (key_len head) && (nat_le (key_len head) 256 && (nat_le (value_len head) 4096
+    && (nat_le (need geo (key_len head) (value_len head)) 64 && nat_le (chunk + need geo (key_len head) (value_len head)) geo.chunks)))
+
+-- the checksum: the hash of the bytes of the first word, of the key's words and of the value's
+abbrev pub checksum : ℕ → List ℕ → List ℕ → ℕ
+checksum head key value = hash (to_le_bytes w64 head ++ key ++ value)
+
+-- the bytes behind so many are zero
+abbrev pub is_filled : ℕ → List ℕ → Bool
+is_filled count bytes = list_all (λ byte. byte == 0) (drop count bytes)
+
+-- what is read at a chunk: an entry, or the first thing that is wrong there
+pub data Reading : Type 0 where
+  wrong_lengths : Reading
+  wrong_checksum : Reading
+  wrong_filling : Reading
+  entry : Pair → Reading
+
+abbrev pub reading_of : Geo → ℕ → ℕ → ℕ → List ℕ → List ℕ → Reading
+reading_of geo chunk head sum key value =
+    if not (lengths_fit geo chunk head) then wrong_lengths
+    else (if not (checksum head key value == sum) then wrong_checksum
+    else (if not (is_filled (key_len head) key && is_filled (value_len head) value) then wrong_filling
+    else entry (record { key = take (key_len head) key; value = take (value_len head) value })))
+
+unfoldable pub reading_at : Geo → List ℕ → ℕ → ℕ → Reading
+reading_at geo words place chunk =
+    let head = word_at words (chunk_at geo place chunk) in
+    reading_of geo chunk head (word_at words (chunk_at geo place chunk + 1)) (key_bytes geo words place chunk head) (value_bytes geo words place chunk head)
+
+-- an entry stands where it is placed
+abbrev pub Stands : Geo → List ℕ → Placed → Type 0
+Stands geo words placed = reading_at geo words placed.place placed.chunk ≡ entry (pair_of placed)
+
+-- the key's words stand at a chunk, whatever the first word tells
+abbrev pub HasKeyWords : Geo → List ℕ → ℕ → ℕ → List ℕ → Type 0
+HasKeyWords geo words place chunk key = bytes_at geo words place chunk 0 (parts_for 8 (length key)) ≡ filled key
