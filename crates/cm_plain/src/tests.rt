@@ -182,6 +182,7 @@ fn compare(
     Ok(())
 }
 
+// In the last table the second value needs two chunks: it stays in place, or goes behind b's entry.
 #[test]
 fn answers_each_operation(rt: HostRuntime) -> Result<(), Fail> {
     let tables: [&[(&str, &str, u64)]; 4] = [
@@ -206,7 +207,6 @@ fn answers_each_operation(rt: HostRuntime) -> Result<(), Fail> {
             ("sweep b", "Swept bba", 5),
             ("sweep b", "SweptAll", 5),
         ],
-        // The second value needs two chunks: it stays in place, or goes behind b's entry.
         &[
             ("put a 1", "New", 1),
             ("put a 123456789", "Replaced", 2),
