@@ -12,3 +12,5 @@ pub mod Sweeping
 pub mod Counted
 pub mod Standing
 pub mod Telling
+pub mod Filling
+pub mod Resting

@@ -15,11 +15,11 @@ use Rattle.cm_plain.proofs.Apart.{Rising, chunks_some}
 use Rattle.cm_plain.proofs.Standing.{resting_tells}
 
 -- an element of a list, by recursion
-abbrev In : {X : Type 0} → X → List X → Type 0
+abbrev pub In : {X : Type 0} → X → List X → Type 0
 In x [] = ⊥
 In x (y ∷ ys) = (x ≡ y) ⊎ In x ys
 
-in_from : {X : Type 0} (xs : List X) (x : X) → Contains xs x → In x xs
+pub in_from : {X : Type 0} (xs : List X) (x : X) → Contains xs x → In x xs
 in_from xs x c = at xs x c.0 c.1 c.2
   where
     at : {X : Type 0} (xs : List X) (x : X) (k : ℕ) → k < length xs → get_or xs k x ≡ x → In x xs
@@ -27,12 +27,12 @@ in_from xs x c = at xs x c.0 c.1 c.2
     at (y ∷ ys) x zero below e = inl (sym e)
     at (y ∷ ys) x (suc k) below e = inr (at ys x k (omega arith) e)
 
-in_to : {X : Type 0} (xs : List X) (x : X) → In x xs → Contains xs x
+pub in_to : {X : Type 0} (xs : List X) (x : X) → In x xs → Contains xs x
 in_to [] x h = absurd h
 in_to (y ∷ ys) x (inl e) = (0, omega arith, sym e)
 in_to (y ∷ ys) x (inr h) = let c = in_to ys x h in (suc c.0, omega (arith, c.1), c.2)
 
-in_has : {X : Type 0} (P : X → Type 0) (xs : List X) (x : X) → AllByRecursion P xs → In x xs → P x
+pub in_has : {X : Type 0} (P : X → Type 0) (xs : List X) (x : X) → AllByRecursion P xs → In x xs → P x
 in_has P [] x h i = absurd i
 in_has P (y ∷ ys) x h (inl e) = subst P (sym e) h.0
 in_has P (y ∷ ys) x h (inr i) = in_has P ys x h.1 i

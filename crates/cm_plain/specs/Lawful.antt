@@ -1,7 +1,7 @@
 -- How the words of a segment stand for a state while no change is under way (own; the slot law is after Chronicle Map).
-use Rattle.std.specs.Prelude.{ℕ, ◌≡◌, ◌≢◌, ◌+◌, ◌-◌, ◌*◌, ◌/◌, ◌%◌, ◌<◌, ◌≤◌, ◌==◌, ◌↔◌, false, List, length, filter, All, Contains, IsBitSet, Some, None}
+use Rattle.std.specs.Prelude.{ℕ, ◌≡◌, ◌≢◌, ◌+◌, ◌-◌, ◌*◌, ◌/◌, ◌%◌, ◌^◌, ◌<◌, ◌≤◌, ◌==◌, ◌↔◌, false, List, length, filter, All, Contains, IsBitSet, Some, None}
 use Rattle.cm_geo.specs.declared.geo.Geo.{Geo}
-use Rattle.cm_geo.specs.Addresses.{bits_at, tier_at}
+use Rattle.cm_geo.specs.Addresses.{bits_at, tier_at, words_in_segment}
 use Rattle.cm_geo.specs.Hash.{home_in}
 use Rattle.cm_plain.specs.declared.placed.Placed.{Placed}
 use Rattle.cm_plain.specs.States.{IsState, State, chunks_of}
@@ -9,6 +9,11 @@ use Rattle.cm_plain.specs.Steps.{last_number}
 use Rattle.cm_plain.specs.Slots.{IsPointedOnce, Slot, slot_for, slot_in, word_at}
 use Rattle.cm_plain.specs.Readings.{Stands}
 use Rattle.cm_plain.specs.Linked.{IsZero, linked}
+
+-- the list is the words of a segment: there are as many, of 64 bits each
+pub record IsSegmentWords (geo : Geo) (words : List ℕ) : Type 0 where
+  pub many : length words ≡ words_in_segment geo
+  pub fit : All (λ word. word < 2 ^ 64) words
 
 -- the state has an entry at this place
 pub record IsAt (state : State) (place : ℕ) (placed : Placed) : Type 0 where
