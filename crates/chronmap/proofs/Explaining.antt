@@ -1,6 +1,7 @@
 -- What a run of one segment reports explains its script.
 use Rattle.std.proofs.Common.{◌≡◌, ◌∙◌, ℕ, ◌+◌, ◌-◌, ◌<◌, ◌≤◌, ◌==◌, ◌%◌, Bool, true, false, List, [], ◌∷◌, ◌++◌, length, map, take, All, Some, ap, refl, sym, subst, arith, zero, suc, inl, inr}
 use Rattle.std.specs.List.{enumerate_from, slice_get}
+use Rattle.std.proofs.Math.Nat.{zero-add}
 use Rattle.std.proofs.lemmas.Bool.{cases_Bool}
 use Rattle.std.proofs.lemmas.Bool.Decides.{nat_tests}
 use Rattle.std.proofs.lemmas.List.{append-nil, take_all}
@@ -134,8 +135,5 @@ explains geo script at receipts now lines extra one kept whole ran maps extra_is
       pairs = λ segment. maps.pairs;
       listed = λ segment below. maps.lists;
       map_is = rw one (maps.lines_are ∙ sym (append-nil (map (map_line 0) maps.pairs)));
-      extra_is = rw one (extra_is ∙ zero_front (length now.state.chain - 1));
+      extra_is = rw one (extra_is ∙ sym (zero-add (length now.state.chain - 1)));
     }
-  where
-    zero_front : (n : ℕ) → n ≡ 0 + n
-    zero_front n = omega arith

@@ -1,6 +1,7 @@
 -- The history of a segment whose operations are answered one after the other.
 use Rattle.std.proofs.Common.{◌≡◌, ◌∙◌, ℕ, ◌+◌, ◌<◌, ◌≤◌, Bool, true, false, inl, inr, List, [], ◌∷◌, ◌++◌, length, map, filter, get_or, All, ap, refl, sym, subst, arith, zero, suc}
 use Rattle.std.specs.List.{AllPairs, range_with_len}
+use Rattle.std.proofs.Math.Nat.{zero-add}
 use Rattle.std.proofs.lemmas.Bool.{cases_Bool}
 use Rattle.std.proofs.lemmas.List.{append-nil, get_or_append_left, get_or_push, length_push, map-append}
 use Rattle.std.proofs.lemmas.List.Elements.{All-push, All-weaker, filter-append}
@@ -127,7 +128,7 @@ more_change geo calls hist old new call h answered number_is changed =
     let step : Step geo 0 old.state n true call.op new.state call.receipt.reply =
     rw (granted_change call.receipt.reply changed) at (as_granted geo 0 old.state n call.op new.state call.receipt.reply (rw (h.geo_is, h.segment_is, h.number_is) at answered.step)) in
     let stands : Stands geo (hist ++ new.state ∷ []) true call =
-    (n, omega (arith, h.long, length_push hist new.state), number_is ∙ raised ∙ zero_front n, rw (at_prior, at_last, zero_left n) step) in
+    (n, omega (arith, h.long, length_push hist new.state), number_is ∙ raised ∙ zero_front n, rw (at_prior, at_last, zero-add n) step) in
     record {
       geo_is = answered.geo_same ∙ h.geo_is;
       segment_is = answered.segment_same ∙ h.segment_is;
@@ -150,9 +151,6 @@ more_change geo calls hist old new call h answered number_is changed =
     zero_front : (n : ℕ) → n + 1 ≡ 0 + n + 1
     zero_front n = omega arith
 
-    zero_left : (n : ℕ) → 0 + n ≡ n
-    zero_left n = omega arith
-
 -- one more call that changes nothing
 pub more_other : (geo : Geo) (calls : List Call) (hist : List State) (old new : Segment) (call : Call) → History geo calls hist old
     → Answered old new false call.op call.receipt.reply → call.receipt.number ≡ new.number → changes call ≡ false → History geo (calls ++ call ∷ []) hist new
@@ -165,7 +163,7 @@ more_other geo calls hist old new call h answered number_is still =
     let at_last : state_at hist n ≡ old.state = h.last in
     let step : Step geo 0 old.state n (granted call.receipt.reply) call.op old.state call.receipt.reply =
     as_granted geo 0 old.state n call.op old.state call.receipt.reply (rw (h.geo_is, h.segment_is, h.number_is, state_same) at answered.step) in
-    let stands : Stands geo hist false call = (n, omega (arith, h.long), number_is ∙ same ∙ zero_front n, rw (at_last, zero_left n) step) in
+    let stands : Stands geo hist false call = (n, omega (arith, h.long), number_is ∙ same ∙ sym (zero-add n), rw (at_last, zero-add n) step) in
     record {
       geo_is = answered.geo_same ∙ h.geo_is;
       segment_is = answered.segment_same ∙ h.segment_is;
@@ -178,12 +176,6 @@ more_other geo calls hist old new call h answered number_is still =
       below = All-push (λ it. it.receipt.number ≤ new.number) calls call (All-weaker (λ it. it.receipt.number ≤ old.number) (λ it. it.receipt.number ≤ new.number) (λ it k. omega (arith, k, same, h.number_is)) calls h.below) (omega (arith, number_is));
       in_order = all_pairs_push KeepsOrder calls call h.in_order (λ k d inside same'. (omega (arith, h.below k d inside, number_is, same, h.number_is), λ e. absurd (let f : true ≡ false = sym e ∙ still in cc f)));
     }
-  where
-    zero_front : (n : ℕ) → n ≡ 0 + n
-    zero_front n = omega arith
-
-    zero_left : (n : ℕ) → 0 + n ≡ n
-    zero_left n = omega arith
 
 -- one more call
 pub record More (geo : Geo) (calls : List Call) (now : Segment) : Type 0 where

@@ -1,16 +1,17 @@
 -- When the run of a new entry meets none of those that stand.
-use Rattle.std.proofs.Common.{◌≡◌, ◌≢◌, ◌∙◌, ℕ, ◌+◌, ◌-◌, ◌*◌, ◌/◌, ◌<◌, ◌≤◌, ◌==◌, ◌&&◌, Bool, true, false, List, [], ◌∷◌, length, filter, find, nat_lt, nat_le, Some, refl, sym, subst, arith, inl, inr, ◌⊎◌}
+use Rattle.std.proofs.Common.{◌≡◌, ◌≢◌, ◌∙◌, ℕ, ◌+◌, ◌-◌, ◌*◌, ◌/◌, ◌<◌, ◌≤◌, ◌==◌, ◌&&◌, Bool, true, false, List, [], ◌∷◌, length, filter, find, nat_lt, nat_le, Some, refl, subst, arith, inl, inr, ◌⊎◌}
 use Rattle.std.specs.List.{AllByRecursion, list_any}
-use Rattle.std.proofs.lemmas.Bool.{cases_Bool, cases_eq, cases_lt}
+use Rattle.std.proofs.lemmas.Bool.{both_ways, cases_Bool, cases_eq, cases_lt}
 use Rattle.std.proofs.Math.Nat.{div-lt_iff_lt-mul}
 use Rattle.std.proofs.lemmas.Bool.Decides.{nat_tests}
+use Rattle.cm_geo.proofs.Ranges.{chunk_words_range}
 use Rattle.cm_geo.specs.declared.geo.Geo.{Geo}
 use Rattle.cm_geo.specs.Need.{parts_for}
 use Rattle.cm_plain.specs.declared.placed.Placed.{Placed}
 use Rattle.cm_plain.specs.States.{HasRun, chunks_of, run_start, run_end}
 use Rattle.cm_plain.specs.Rooms.{meets, is_free}
 use Rattle.cm_plain.specs.Changes.{with_entry}
-use Rattle.cm_plain.proofs.Each.{Pairs, each_kept, each_weaker, each_both, pairs_kept, pairs_append, each_fails, found_has}
+use Rattle.cm_plain.proofs.Each.{Pairs, each_kept, each_weaker, each_both, pairs_kept, pairs_append, each_fails, found_first, found_has}
 
 -- on numbers: which of two runs comes first, by where they begin
 low_end : (start chunks at more : ℕ) → (start + chunks ≤ at) ⊎ (at + more ≤ start) → nat_lt start at ≡ true → start + chunks ≤ at
@@ -28,12 +29,20 @@ IsApart geo entry other = (run_end geo entry ≤ run_start geo other) ⊎ (run_e
 abbrev pub Rising : Geo → Placed → Placed → Type 0
 Rising geo entry later = run_end geo entry ≤ run_start geo later
 
+-- the test of those that begin before an entry
+abbrev pub begins_before : Geo → Placed → Placed → Bool
+begins_before geo entry other = nat_lt (run_start geo other) (run_start geo entry)
+
+-- the test of those that begin behind it
+abbrev pub begins_behind : Geo → Placed → Placed → Bool
+begins_behind geo entry other = nat_lt (run_start geo entry) (run_start geo other)
+
 -- a run that is apart from all others may be put among them
 pub rising_with : (geo : Geo) (entry : Placed) (entries : List Placed) → Pairs (Rising geo) entries → AllByRecursion (λ other. IsApart geo other entry) entries
     → Pairs (Rising geo) (with_entry geo entry entries)
 rising_with geo entry entries rising apart =
-    let before : Placed → Bool = λ other. nat_lt (run_start geo other) (run_start geo entry) in
-    let behind : Placed → Bool = λ other. nat_lt (run_start geo entry) (run_start geo other) in
+    let before = begins_before geo entry in
+    let behind = begins_behind geo entry in
     let low : AllByRecursion (λ other. Rising geo other entry) (filter before entries) =
     each_kept (λ other. IsApart geo other entry) (λ other. Rising geo other entry) before
     (λ other h e. low_end (run_start geo other) (chunks_of geo other) (run_start geo entry) (chunks_of geo entry) h e) entries apart in
@@ -66,13 +75,6 @@ apart_places geo entry other inside inside' differ =
       | inr above ↦ let over : place' < place = omega arith in inr (lower_tier place' place tier chunk' chunks' chunk over h')
     ]
 
--- chunks have words, so an entry takes a chunk at least
-words_some : (geo : Geo) → 1 ≤ geo.chunk_words
-words_some geo = elim (cases_eq geo.chunk_words 0) [
-  | inl none ↦ let h = rw none at geo.chunk_words_fit in cc h
-  | inr some ↦ omega arith
-]
-
 -- something takes a part at least
 some_parts : (size whole : ℕ) → 1 ≤ size → 1 ≤ whole → 1 ≤ parts_for size whole
 some_parts size whole h k = elim (cases_lt ((whole + size - 1) / size) 1) [
@@ -83,7 +85,7 @@ some_parts size whole h k = elim (cases_lt ((whole + size - 1) / size) 1) [
 -- so an entry takes a chunk at least
 pub chunks_some : (geo : Geo) (entry : Placed) → 1 ≤ chunks_of geo entry
 chunks_some geo entry =
-    some_parts geo.chunk_words (2 + parts_for 8 (length entry.key) + parts_for 8 (length entry.value)) (words_some geo) (omega arith)
+    some_parts geo.chunk_words (2 + parts_for 8 (length entry.key) + parts_for 8 (length entry.value)) (omega (arith, chunk_words_range geo)) (omega arith)
 
 -- a run that is not met is apart in its tier
 not_met : (place place' chunk chunks chunk' chunks' : ℕ) → (place == place' && (nat_lt chunk (chunk' + chunks') && nat_lt chunk' (chunk + chunks))) ≡ false → place ≡ place'
@@ -139,24 +141,23 @@ pub others_apart : (geo : Geo) (test : Placed → Bool) (entries : List Placed) 
 others_apart geo test [] old rising e = tt
 others_apart geo test (entry ∷ entries) old rising e = elim (cases_Bool (test entry)) [
   | inl passes ↦
-      let same : Some entry ≡ Some old = rw passes at e in
-      let is : entry ≡ old = cc same in
-      subst (λ (it : Placed). AllByRecursion (λ other. test other ≡ false → IsApart geo other it) (entry ∷ entries)) is
-      (λ fails. absurd (let h : true ≡ false = sym passes ∙ fails in cc h), each_weaker (Rising geo entry) (λ other. test other ≡ false → IsApart geo other entry) (λ other h fails. inr h) entries rising.0)
+      subst (λ (it : Placed). AllByRecursion (λ other. test other ≡ false → IsApart geo other it) (entry ∷ entries)) (found_first test entry entries old passes e)
+      (λ fails. absurd (both_ways (test entry) fails passes), each_weaker (Rising geo entry) (λ other. test other ≡ false → IsApart geo other entry) (λ other h fails. inr h) entries rising.0)
   | inr fails ↦
       let later = rw fails at e in
       (λ fails'. inl (found_has (Rising geo entry) test entries old rising.0 later), others_apart geo test entries old rising.1 later)
 ]
 
+-- entries at one chunk begin as one
+pub start_same : (geo : Geo) (one other : Placed) → one.place ≡ other.place → one.chunk ≡ other.chunk → run_start geo one ≡ run_start geo other
+start_same geo one other place chunk = rw (place, chunk) refl
+
 -- a shorter run in the same place is apart from whatever the longer one was
 pub shorter : (geo : Geo) (old entry other : Placed) → entry.place ≡ old.place → entry.chunk ≡ old.chunk → chunks_of geo entry ≤ chunks_of geo old
     → IsApart geo other old → IsApart geo other entry
 shorter geo old entry other place chunk few apart =
-    by_numbers (run_start geo other) (chunks_of geo other) (run_start geo old) (chunks_of geo old) (chunks_of geo entry) (run_start geo entry) (same place chunk) few apart
+    by_numbers (run_start geo other) (chunks_of geo other) (run_start geo old) (chunks_of geo old) (chunks_of geo entry) (run_start geo entry) (start_same geo entry old place chunk) few apart
   where
-    same : entry.place ≡ old.place → entry.chunk ≡ old.chunk → run_start geo entry ≡ run_start geo old
-    same e f = rw (e, f) refl
-
     by_numbers : (at n start long short start' : ℕ) → start' ≡ start → short ≤ long → (at + n ≤ start) ⊎ (start + long ≤ at) → (at + n ≤ start') ⊎ (start' + short ≤ at)
     by_numbers at n start long short start' e few apart = grind arith
 

@@ -1,7 +1,7 @@
 -- The lowest place outside a chain, and the chain with it.
-use Rattle.std.proofs.Common.{◌≡◌, ◌≢◌, ◌∙◌, ℕ, ◌+◌, ◌<◌, ◌≤◌, ◌==◌, Bool, true, false, not, List, [], ◌∷◌, ◌++◌, length, eqb, Some, refl, sym, subst, arith, zero, suc, inl, inr}
+use Rattle.std.proofs.Common.{◌≡◌, ◌≢◌, ◌∙◌, ℕ, ◌+◌, ◌<◌, ◌≤◌, ◌==◌, Bool, true, false, List, [], ◌∷◌, ◌++◌, length, eqb, Some, refl, sym, subst, arith, zero, suc, inl, inr}
 use Rattle.std.specs.List.{list_any, position_or_len, range_with_len, slice_get, AllByRecursion}
-use Rattle.std.proofs.lemmas.Bool.{cases_Bool, cases_eq}
+use Rattle.std.proofs.lemmas.Bool.{cases_Bool, cases_eq, not-false, not-true}
 use Rattle.std.proofs.lemmas.Bool.Decides.{nat_tests}
 use Rattle.std.proofs.lemmas.List.Elements.{All-push}
 use Rattle.std.proofs.lemmas.List.Quantifiers.{all_pairs_push}
@@ -60,21 +60,11 @@ linked_each_way : (chain : List ℕ) (place : ℕ) → list_any (λ linked. link
 linked_each_way [] place = refl
 linked_each_way (linked ∷ chain) place = let same : (linked == place) ≡ eqb place linked = grind (arith, nat_tests) in rw (same, linked_each_way chain place) refl
 
--- what is not false, is true
-not_false : (b : Bool) → not b ≡ false → b ≡ true
-not_false true e = refl
-not_false false e = cc e
-
--- what is not true, is false
-not_true : (b : Bool) → not b ≡ true → b ≡ false
-not_true false e = refl
-not_true true e = cc e
-
 -- a chain that has all places is as long as there are places
 all_linked : (chain : List ℕ) (most : ℕ) → ((place : ℕ) → place < most → is_unlinked chain (0 + place) ≡ false) → most ≤ length chain
 all_linked chain most linked =
     le-length_from_below chain most
-    (λ place below. sym (linked_each_way chain place) ∙ not_false (list_any (λ it. it == place) chain) (at_same (is_unlinked chain) place (0 + place) false (omega arith) (linked place below)))
+    (λ place below. sym (linked_each_way chain place) ∙ not-false (list_any (λ it. it == place) chain) (at_same (is_unlinked chain) place (0 + place) false (omega arith) (linked place below)))
 
 -- the lowest place outside a chain is outside it
 pub lowest_outside : (geo : Geo) (chain : List ℕ) → length chain < geo.tiers → IsOutside geo chain (lowest_unlinked geo chain)
@@ -91,7 +81,7 @@ lowest_outside geo chain short =
 pub each_other : (chain : List ℕ) (place : ℕ) → is_unlinked chain place ≡ true → AllByRecursion (λ linked. linked ≢ place) chain
 each_other chain place e =
     each_weaker (λ linked. (linked == place) ≡ false) (λ linked. linked ≢ place) (λ linked no. grind (arith, nat_tests)) chain
-    (each_fails (λ linked. linked == place) chain (not_true (list_any (λ linked. linked == place) chain) e))
+    (each_fails (λ linked. linked == place) chain (not-true (list_any (λ linked. linked == place) chain) e))
 
 -- a longer chain begins as before
 first_stays : (chain : List ℕ) (place : ℕ) → slice_get chain 0 ≡ Some 0 → slice_get (chain ++ place ∷ []) 0 ≡ Some 0

@@ -1,14 +1,14 @@
 -- How many entries a state has at most.
-use Rattle.std.proofs.Common.{ℕ, ◌+◌, ◌*◌, ◌<◌, ◌≤◌, ◌^◌, List, [], ◌∷◌, length, suc, subst, arith}
+use Rattle.std.proofs.Common.{ℕ, ◌+◌, ◌*◌, ◌<◌, ◌≤◌, ◌^◌, List, [], ◌∷◌, length, suc, arith}
 use Rattle.std.specs.List.{AllByRecursion}
 use Rattle.std.proofs.Math.Nat.{mul-le-mul_left}
-use Rattle.std.proofs.lemmas.List.Elements.{recursion_from_All}
 use Rattle.cm_geo.specs.declared.geo.Geo.{Geo}
 use Rattle.cm_geo.proofs.Ranges.{chunks_range, tiers_range}
 use Rattle.cm_plain.specs.declared.placed.Placed.{Placed}
 use Rattle.cm_plain.specs.States.{IsChain, IsPlaced, IsState, State, chunks_of, run_end, run_start}
-use Rattle.cm_plain.proofs.Each.{Pairs, each_weaker, pairs_from_all}
+use Rattle.cm_plain.proofs.Each.{Pairs, each_weaker}
 use Rattle.cm_plain.proofs.Apart.{Rising, chunks_some}
+use Rattle.cm_plain.proofs.States.{each_placed, each_rising, place_low}
 
 -- entries whose runs rise from a chunk to another are no more than the chunks between
 counted : (geo : Geo) (low top : ℕ) (entries : List Placed) → low ≤ top → Pairs (Rising geo) entries → AllByRecursion (λ entry. low ≤ run_start geo entry) entries
@@ -24,9 +24,7 @@ counted geo low top (entry ∷ entries) within rising above below =
 -- a run ends within the tiers
 ends_within : (geo : Geo) (segment : ℕ) (chain : List ℕ) (entry : Placed) → IsChain geo chain → IsPlaced geo segment chain entry → run_end geo entry ≤ geo.tiers * geo.chunks
 ends_within geo segment chain entry is placed =
-    let at = placed.chained in
-    let low : entry.place < geo.tiers = subst (λ (place : ℕ). place < geo.tiers) at.2 (is.inside at.0 entry.place at.1) in
-    by_numbers entry.place geo.tiers geo.chunks entry.chunk (chunks_of geo entry) low placed.run.inside
+    by_numbers entry.place geo.tiers geo.chunks entry.chunk (chunks_of geo entry) (place_low is entry.place placed.chained) placed.run.inside
   where
     by_numbers : (place tiers tier chunk chunks : ℕ) → place < tiers → chunk + chunks ≤ tier → place * tier + chunk + chunks ≤ tiers * tier
     by_numbers place tiers tier chunk chunks low inside = grind arith
@@ -34,10 +32,10 @@ ends_within geo segment chain entry is placed =
 -- so their number fits 32 bits
 pub few_entries : (geo : Geo) (segment : ℕ) (state : State) → IsState geo segment state → length state.entries < 2 ^ 32
 few_entries geo segment state is =
-    let placed = recursion_from_All (IsPlaced geo segment state.chain) state.entries is.placed in
+    let placed = each_placed is in
     let ends = each_weaker (IsPlaced geo segment state.chain) (λ entry. run_end geo entry ≤ geo.tiers * geo.chunks) (λ entry h. ends_within geo segment state.chain entry is.chain h) state.entries placed in
     let starts = each_weaker (IsPlaced geo segment state.chain) (λ entry. 0 ≤ run_start geo entry) (λ entry h. omega arith) state.entries placed in
-    let few = counted geo 0 (geo.tiers * geo.chunks) state.entries (omega arith) (pairs_from_all (Rising geo) state.entries is.runs) starts ends in
+    let few = counted geo 0 (geo.tiers * geo.chunks) state.entries (omega arith) (each_rising is) starts ends in
     let chunks : geo.chunks ≤ 4096 = (chunks_range geo).1 in
     let tiers : geo.tiers ≤ 8 = (tiers_range geo).1 in
     omega (arith, few, mul-le-mul_left geo.tiers chunks, tiers)

@@ -3,6 +3,7 @@ use Rattle.std.proofs.Common.{◌≡◌, ℕ, ◌<◌, Bool, true, false, List, 
 use Rattle.std.specs.List.{AllByRecursion, AllPairs, list_any}
 use Rattle.std.proofs.lemmas.List.Elements.{All-from_recursion, recursion_from_All}
 use Rattle.std.proofs.lemmas.Bool.{cases_Bool}
+use Rattle.std.proofs.lemmas.Option.{same_Some}
 
 -- each earlier one is so related to each later one
 abbrev pub Pairs : {X : Type 0} → (X → X → Type 0) → List X → Type 0
@@ -36,6 +37,10 @@ each_kept P Q test gives (x ∷ xs) h = elim (cases_Bool (test x)) [
   | inr fails ↦ rw fails (each_kept P Q test gives xs h.1)
 ]
 
+-- what holds of each holds of those that a test keeps
+pub each_filter : {X : Type 0} (P : X → Type 0) (test : X → Bool) (xs : List X) → AllByRecursion P xs → AllByRecursion P (filter test xs)
+each_filter P test = each_kept P P test (λ x h e. h)
+
 -- what follows from what holds of each holds of each
 pub each_weaker : {X : Type 0} (P Q : X → Type 0) → ((x : X) → P x → Q x) → (xs : List X) → AllByRecursion P xs → AllByRecursion Q xs
 each_weaker P Q gives [] h = tt
@@ -55,7 +60,7 @@ each_append P (x ∷ xs) ys h k = (h.0, each_append P xs ys h.1 k)
 pub pairs_kept : {X : Type 0} (R : X → X → Type 0) (test : X → Bool) (xs : List X) → Pairs R xs → Pairs R (filter test xs)
 pairs_kept R test [] h = tt
 pairs_kept R test (x ∷ xs) h = elim (cases_Bool (test x)) [
-  | inl passes ↦ rw passes (each_kept (R x) (R x) test (λ y r e. r) xs h.0, pairs_kept R test xs h.1)
+  | inl passes ↦ rw passes (each_filter (R x) test xs h.0, pairs_kept R test xs h.1)
   | inr fails ↦ rw fails (pairs_kept R test xs h.1)
 ]
 
@@ -72,11 +77,15 @@ each_fails test (x ∷ xs) e = elim (cases_Bool (test x)) [
   | inr fails ↦ (fails, each_fails test xs (rw fails at e))
 ]
 
--- what was found passes, and has what each element has
+-- a first element that passes is what was found
+pub found_first : {X : Type 0} (test : X → Bool) (x : X) (xs : List X) (found : X) → test x ≡ true → find test (x ∷ xs) ≡ Some found → x ≡ found
+found_first test x xs found passes e = same_Some x found (rw passes at e)
+
+-- what was found passes
 pub found_passes : {X : Type 0} (test : X → Bool) (xs : List X) (x : X) → find test xs ≡ Some x → test x ≡ true
 found_passes test [] x e = cc e
 found_passes test (y ∷ xs) x e = elim (cases_Bool (test y)) [
-  | inl passes ↦ let same : Some y ≡ Some x = rw passes at e in let is : y ≡ x = cc same in subst (λ z. test z ≡ true) is passes
+  | inl passes ↦ subst (λ z. test z ≡ true) (found_first test y xs x passes e) passes
   | inr fails ↦ found_passes test xs x (rw fails at e)
 ]
 
@@ -84,7 +93,7 @@ found_passes test (y ∷ xs) x e = elim (cases_Bool (test y)) [
 pub found_has : {X : Type 0} (P : X → Type 0) (test : X → Bool) (xs : List X) (x : X) → AllByRecursion P xs → find test xs ≡ Some x → P x
 found_has P test [] x h e = cc e
 found_has P test (y ∷ xs) x h e = elim (cases_Bool (test y)) [
-  | inl passes ↦ let same : Some y ≡ Some x = rw passes at e in let is : y ≡ x = cc same in subst P is h.0
+  | inl passes ↦ subst P (found_first test y xs x passes e) h.0
   | inr fails ↦ found_has P test xs x h.1 (rw fails at e)
 ]
 
@@ -106,12 +115,12 @@ across_tests R symmetric test other excludes (x ∷ xs) h =
     elim (cases_Bool (test x)) [
       | inl passes ↦
           across_as R (filter test (x ∷ xs)) (x ∷ filter test xs) (filter other (x ∷ xs)) (filter other xs) (rw passes refl) (rw (excludes x passes) refl)
-          (each_kept (R x) (R x) other (λ y r e. r) xs h.0, later)
+          (each_filter (R x) other xs h.0, later)
       | inr fails ↦ elim (cases_Bool (other x)) [
         | inl taken ↦
             across_as R (filter test (x ∷ xs)) (filter test xs) (filter other (x ∷ xs)) (x ∷ filter other xs) (rw fails refl) (rw taken refl)
             (each_both (λ y. R x y) (λ y. AllByRecursion (R y) (filter other xs)) (λ y. AllByRecursion (R y) (x ∷ filter other xs))
-            (λ y r rest. (symmetric x y r, rest)) (filter test xs) (each_kept (R x) (R x) test (λ y r e. r) xs h.0) later)
+            (λ y r rest. (symmetric x y r, rest)) (filter test xs) (each_filter (R x) test xs h.0) later)
         | inr left ↦
             across_as R (filter test (x ∷ xs)) (filter test xs) (filter other (x ∷ xs)) (filter other xs) (rw fails refl) (rw left refl) later
       ]

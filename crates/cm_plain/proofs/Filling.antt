@@ -31,6 +31,10 @@ pub bytes_len : (words : List ℕ) → length (bytes_of words) ≡ 8 * length wo
 bytes_len [] = refl
 bytes_len (word ∷ words) = let rest = bytes_len words in grind (arith, common_steps)
 
+-- bytes are no more than those of their whole words
+pub whole_words : (count len : ℕ) → len ≡ 8 * parts_for 8 count → count ≤ len
+whole_words count len e = omega arith
+
 -- bytes of whole words, of which those behind so many are zero
 pub filled_is : (count : ℕ) (bytes : List ℕ) → length bytes ≡ 8 * parts_for 8 count → is_filled count bytes ≡ true → bytes ≡ filled (take count bytes)
 filled_is count bytes len zeros =
@@ -40,9 +44,10 @@ filled_is count bytes len zeros =
     let zero_bytes : drop count bytes ≡ replicate (8 * parts_for 8 count - count) 0 = zeros_are (drop count bytes) zeros ∙ ap (λ (n : ℕ). replicate n 0) rest in
     let fill : replicate (8 * parts_for 8 count - count) 0 ≡ replicate (8 * parts_for 8 (length (take count bytes)) - length (take count bytes)) 0 = ap (λ (n : ℕ). replicate (8 * parts_for 8 n - n) 0) (sym taken) in
     sym (take-append-drop count bytes) ∙ ap (λ (end : List ℕ). take count bytes ++ end) (zero_bytes ∙ fill)
-  where
-    whole_words : (count len : ℕ) → len ≡ 8 * parts_for 8 count → count ≤ len
-    whole_words count len e = omega arith
+
+-- a reading is of one pair
+pub one_entry : (p q : Pair) → entry p ≡ entry q → p ≡ q
+one_entry p q e = cc e
 
 -- what is known of an entry that is read
 pub record IsRead (geo : Geo) (chunk head sum : ℕ) (key value : List ℕ) (pair : Pair) : Type 0 where
@@ -59,9 +64,6 @@ is_read geo chunk head sum key value pair e = elim (cases_Bool (lengths_fit geo 
   | inl fit ↦ by_sum fit (rw fit at e)
 ]
   where
-    one_entry : (p q : Pair) → entry p ≡ entry q → p ≡ q
-    one_entry p q e = cc e
-
     by_filling : lengths_fit geo chunk head ≡ true → checksum head key value ≡ sum
         → (if not (is_filled (key_len head) key && is_filled (value_len head) value) then wrong_filling else entry (record { key = take (key_len head) key; value = take (value_len head) value })) ≡ entry pair
         → IsRead geo chunk head sum key value pair

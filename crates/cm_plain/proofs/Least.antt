@@ -133,10 +133,14 @@ by_keys prefix entries (first ∷ keys) e =
       least = All-from_recursion (λ (entry : Placed). has_prefix prefix entry.key ≡ true → IsAtLeast least entry.key) entries below;
     }
 
+-- a key that is the least of them
+least_is : (prefix : List ℕ) (entries : List Placed) (answer : Option (List ℕ)) → answer ≡ reduce lesser (keys_with prefix entries)
+    → MatchOption answer (All (λ entry. has_prefix prefix entry.key ≡ false) entries) (IsLeastKey prefix entries)
+least_is prefix entries answer e =
+    subst (λ (it : Option (List ℕ)). MatchOption it (All (λ entry. has_prefix prefix entry.key ≡ false) entries) (IsLeastKey prefix entries)) (sym e) (by_keys prefix entries (keys_with prefix entries) refl)
+
 -- what is the least of the keys with the prefix
 pub least_key_is : (prefix : List ℕ) (entries : List Placed) (answer : Option (Bor (List ℕ))) → option_map (λ key. key.now) answer ≡ reduce lesser (keys_with prefix entries)
     → MatchOption answer (All (λ entry. has_prefix prefix entry.key ≡ false) entries) (λ key. IsLeastKey prefix entries key.now)
-least_key_is prefix entries None e =
-    subst (λ (it : Option (List ℕ)). MatchOption it (All (λ entry. has_prefix prefix entry.key ≡ false) entries) (IsLeastKey prefix entries)) (sym e) (by_keys prefix entries (keys_with prefix entries) refl)
-least_key_is prefix entries (Some key) e =
-    subst (λ (it : Option (List ℕ)). MatchOption it (All (λ entry. has_prefix prefix entry.key ≡ false) entries) (IsLeastKey prefix entries)) (sym e) (by_keys prefix entries (keys_with prefix entries) refl)
+least_key_is prefix entries None e = least_is prefix entries None e
+least_key_is prefix entries (Some key) e = least_is prefix entries (Some key.now) e

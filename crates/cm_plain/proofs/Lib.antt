@@ -1,7 +1,10 @@
 -- The lemmas of the crate.
 pub mod Ranges
 pub mod Each
+pub mod Keys
 pub mod Apart
+pub mod States
+pub mod Seen
 pub mod Chains
 pub mod Placing
 pub mod Splits

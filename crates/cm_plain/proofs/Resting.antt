@@ -1,16 +1,17 @@
 -- Words that rest for a state are torn for each change that is planned for it.
-use Rattle.std.proofs.Common.{◌≡◌, ◌≢◌, ℕ, ◌+◌, ◌-◌, ◌*◌, ◌/◌, ◌%◌, ◌^◌, ◌<◌, ◌≤◌, ◌⊎◌, ◌++◌, Bool, true, false, not, Some, None, Option, List, [], ◌∷◌, Contains, length, filter, get_or, arith, refl, ap, sym, subst, ◌∙◌, inl, inr, take, drop, nat_lt}
+use Rattle.std.proofs.Common.{◌≡◌, ◌≢◌, ℕ, ◌+◌, ◌-◌, ◌*◌, ◌/◌, ◌%◌, ◌^◌, ◌<◌, ◌≤◌, ◌⊎◌, ◌++◌, Bool, true, false, not, Some, None, Option, List, [], ◌∷◌, Contains, length, filter, get_or, arith, refl, ap, sym, subst, ◌∙◌, inl, inr, take, drop}
 use Rattle.std.specs.Option.{option_map}
 use Rattle.std.specs.Str.{bytes_eq}
-use Rattle.std.proofs.lemmas.Bool.{cases_Bool}
+use Rattle.std.proofs.lemmas.Bool.{cases_Bool, not_from_false}
 use Rattle.std.proofs.lemmas.Slice.Eq.{bytes_eq-Decides}
-use Rattle.std.proofs.lemmas.List.Elements.{recursion_from_All}
+use Rattle.std.proofs.lemmas.List.Elements.{All-contains}
+use Rattle.std.proofs.lemmas.Option.{same_Some}
 use Rattle.cm_geo.specs.declared.geo.Geo.{Geo}
 use Rattle.cm_geo.specs.Need.{Fits, need}
 use Rattle.cm_plain.specs.declared.op.Op.{Op}
 use Rattle.cm_plain.specs.declared.placed.Placed.{Placed}
 use Rattle.cm_plain.specs.declared.room.Spot.{Spot}
-use Rattle.cm_plain.specs.States.{IsPlaced, IsState, State, found, found_among, run_start}
+use Rattle.cm_plain.specs.States.{IsState, State, found, found_among, run_start}
 use Rattle.cm_plain.specs.Rooms.{room_for, spot_in}
 use Rattle.cm_plain.specs.Changes.{Change, after, change_of, entries_after, entry_at, placed_value, run_at, run_of, with_entry, without}
 use Rattle.cm_plain.specs.Steps.{Plans}
@@ -24,32 +25,35 @@ use Rattle.std.proofs.lemmas.Bool.Decides.{nat_tests}
 use Rattle.cm_geo.specs.Need.{parts_for}
 use Rattle.cm_geo.proofs.InOrder.{run_in_range}
 use Rattle.cm_plain.specs.States.{pair_of}
-use Rattle.cm_plain.proofs.Filling.{IsRead, bytes_len, filled_is, is_read}
+use Rattle.cm_plain.proofs.Filling.{IsRead, bytes_len, filled_is, is_read, whole_words}
 use Rattle.cm_plain.specs.Linked.{linked}
-use Rattle.cm_plain.specs.Lawful.{IsSegmentWords, IsSlotOf, Resting, Tells, TierTells}
+use Rattle.cm_plain.specs.Lawful.{IsSlotOf, Resting, Tells}
 use Rattle.cm_plain.specs.Torn.{BeginsAt, IsBetween, IsItsEntry, IsItsSlot, IsOthersSlot, IsPointedInChain, Torn}
-use Rattle.cm_plain.proofs.Each.{Pairs, pairs_from_all}
-use Rattle.cm_plain.proofs.Placing.{starts_apart}
-use Rattle.cm_plain.proofs.Telling.{In, in_from, in_has}
-use Rattle.cm_plain.proofs.Standing.{resting_tells}
+use Rattle.cm_plain.proofs.Each.{Pairs}
+use Rattle.cm_plain.proofs.Apart.{begins_before, begins_behind, start_same}
+use Rattle.cm_plain.proofs.Keys.{key_tells}
+use Rattle.cm_plain.proofs.States.{Differs, each_differs, is_placed, place_low}
+use Rattle.cm_plain.proofs.Placing.{keys_differ, starts_apart}
+use Rattle.cm_plain.proofs.Telling.{In, in_chain, in_from, in_has, in_to, tier_of}
+use Rattle.cm_plain.proofs.Standing.{resting_many, resting_tells}
 
 -- the entry of a key is the one that is found
-found_in : (key : List ℕ) (entries : List Placed) (placed : Placed) → Pairs (λ entry later. entry.key ≢ later.key) entries → In placed entries → placed.key ≡ key → found_among key entries ≡ Some placed
+found_in : (key : List ℕ) (entries : List Placed) (placed : Placed) → Pairs Differs entries → In placed entries → placed.key ≡ key → found_among key entries ≡ Some placed
 found_in key [] placed differ i is = absurd i
 found_in key (entry ∷ entries) placed differ (inl e) is =
     let same : bytes_eq entry.key key ≡ true = (bytes_eq-Decides entry.key key).1 (ap (λ (p : Placed). p.key) (sym e) ∙ is) in
     rw (same, e) refl
-found_in key (entry ∷ entries) placed differ (inr i) is = elim (cases_Bool (bytes_eq entry.key key)) [
-  | inl same ↦ absurd (in_has (λ later. entry.key ≢ later.key) entries placed differ.0 i ((bytes_eq-Decides entry.key key).0 same ∙ sym is))
-  | inr other ↦ rw other (found_in key entries placed differ.1 i is)
+found_in key (entry ∷ entries) placed differ (inr i) is = elim (key_tells entry.key key) [
+  | inl same ↦ absurd (in_has (Differs entry) entries placed differ.0 i (same.1 ∙ sym is))
+  | inr other ↦ rw other.0 (found_in key entries placed differ.1 i is)
 ]
 
 pub found_is : (geo : Geo) (segment : ℕ) (state : State) (key : List ℕ) (placed : Placed) → IsState geo segment state → Contains state.entries placed → placed.key ≡ key → found key state ≡ Some placed
 found_is geo segment state key placed is there key_is =
-    found_in key state.entries placed (pairs_from_all (λ entry later. entry.key ≢ later.key) state.entries is.keys) (in_from state.entries placed there) key_is
+    found_in key state.entries placed (each_differs is) (in_from state.entries placed there) key_is
 
 -- the run that a change leaves is that of its key's entry
-old_run_is : (geo : Geo) (state : State) (op : Op) (key : List ℕ) (value : Option (List ℕ)) → (change_of geo state op key value).old_run ≡ option_map (run_of geo) (found key state)
+pub old_run_is : (geo : Geo) (state : State) (op : Op) (key : List ℕ) (value : Option (List ℕ)) → (change_of geo state op key value).old_run ≡ option_map (run_of geo) (found key state)
 old_run_is geo state op key None = refl
 old_run_is geo state op key (Some value) = refl
 
@@ -61,50 +65,22 @@ begins_old geo segment state op change placed is plans there key_is =
     ap (λ (c : Change). c.old_run) plans.change_is ∙ old_run_is geo state op change.key (placed_value op) ∙ ap (option_map (run_of geo)) (found_is geo segment state change.key placed is there key_is) in
     rw run (refl, refl)
 
--- a key's entry, or another one
-by_key : (placed : Placed) (key : List ℕ) → (placed.key ≡ key) ⊎ (placed.key ≢ key)
-by_key placed key = elim (cases_Bool (bytes_eq placed.key key)) [
-  | inl same ↦ inl ((bytes_eq-Decides placed.key key).0 same)
-  | inr other ↦ inr (λ same. (let yes = (bytes_eq-Decides placed.key key).1 same in differ (bytes_eq placed.key key) yes other))
-]
-  where
-    differ : (b : Bool) → b ≡ true → b ≡ false → ⊥
-    differ b one other = cc (sym one ∙ other)
-
--- a tier's words
-tier_of : (geo : Geo) (segment : ℕ) (words : List ℕ) (state : State) (place : ℕ) → Tells geo segment words state → Contains (linked geo words).places place → TierTells geo words state place
-tier_of geo segment words state place tells chained =
-    in_has (TierTells geo words state) state.chain place (recursion_from_All (TierTells geo words state) state.chain tells.tiers)
-    (in_from state.chain place (subst (λ (c : List ℕ). Contains c place) tells.chain chained))
-
 -- each slot is another entry's or the change's
 slots_are : (geo : Geo) (segment : ℕ) (words : List ℕ) (state : State) (op : Op) (change : Change) → Tells geo segment words state → Plans geo segment state op change
     → (place number : ℕ) (slot : Slot) → Contains (linked geo words).places place → number < 2 * geo.chunks → slot_in geo words place number ≡ Some slot
     → IsOthersSlot geo state change place slot ⊎ IsItsSlot geo change place slot
 slots_are geo segment words state op change tells plans place number slot chained inside e =
     let of : IsSlotOf geo state place slot = (tier_of geo segment words state place tells chained).slots number slot inside e in
-    elim (by_key of.placed change.key) [
+    elim (key_tells of.placed.key change.key) [
       | inl same ↦ inr (record {
         chunk = of.placed.chunk;
-        begins = inl (subst (λ (p : ℕ). BeginsAt change.old_run p of.placed.chunk) of.at.place_is (begins_old geo segment state op change of.placed tells.is_state plans of.at.there same));
-        slot_is = of.slot_is ∙ ap (λ (k : List ℕ). slot_for geo k of.placed.chunk) same;
+        begins = inl (subst (λ (p : ℕ). BeginsAt change.old_run p of.placed.chunk) of.at.place_is (begins_old geo segment state op change of.placed tells.is_state plans of.at.there same.1));
+        slot_is = of.slot_is ∙ ap (λ (k : List ℕ). slot_for geo k of.placed.chunk) same.1;
       })
-      | inr other ↦ inl (record { placed = of.placed; is_other = record { there = of.at.there; other = other }; place_is = of.at.place_is; slot_is = of.slot_is })
+      | inr other ↦ inl (record { placed = of.placed; is_other = record { there = of.at.there; other = other.1 }; place_is = of.at.place_is; slot_is = of.slot_is })
     ]
 
--- an element of a list that a test kept
-in_kept : (test : Placed → Bool) (entries : List Placed) (placed : Placed) → In placed (filter test entries) → test placed ≡ true
-in_kept test [] placed i = absurd i
-in_kept test (entry ∷ entries) placed i = elim (cases_Bool (test entry)) [
-  | inl passes ↦ (let j : In placed (entry ∷ filter test entries) = rw passes at i in first test entry entries placed passes (in_kept test entries placed) j)
-  | inr fails ↦ in_kept test entries placed (rw fails at i)
-]
-  where
-    first : (test : Placed → Bool) (entry : Placed) (entries : List Placed) (placed : Placed) → test entry ≡ true → (In placed (filter test entries) → test placed ≡ true)
-        → In placed (entry ∷ filter test entries) → test placed ≡ true
-    first test entry entries placed passes rest (inl e) = subst (λ (p : Placed). test p ≡ true) (sym e) passes
-    first test entry entries placed passes rest (inr j) = rest j
-
+-- an element of those that a test kept is one of all
 in_kept_from : (test : Placed → Bool) (entries : List Placed) (placed : Placed) → In placed (filter test entries) → In placed entries
 in_kept_from test [] placed i = absurd i
 in_kept_from test (entry ∷ entries) placed i = elim (cases_Bool (test entry)) [
@@ -117,7 +93,7 @@ in_kept_from test (entry ∷ entries) placed i = elim (cases_Bool (test entry)) 
     first test entry entries placed rest (inl e) = inl e
     first test entry entries placed rest (inr j) = inr (rest j)
 
-in_kept_to : (test : Placed → Bool) (entries : List Placed) (placed : Placed) → In placed entries → test placed ≡ true → In placed (filter test entries)
+pub in_kept_to : (test : Placed → Bool) (entries : List Placed) (placed : Placed) → In placed entries → test placed ≡ true → In placed (filter test entries)
 in_kept_to test [] placed i passes = absurd i
 in_kept_to test (entry ∷ entries) placed (inl e) passes = let here : test entry ≡ true = subst (λ (p : Placed). test p ≡ true) e passes in rw here (inl e)
 in_kept_to test (entry ∷ entries) placed (inr i) passes = elim (cases_Bool (test entry)) [
@@ -136,8 +112,8 @@ in_append (x ∷ xs) ys placed (inr i) = elim (in_append xs ys placed i) [
 -- an entry among others that were not of its key is the one that was put among them
 is_put : (geo : Geo) (entry : Placed) (others : List Placed) (placed : Placed) → (In placed others → ⊥) → In placed (with_entry geo entry others) → placed ≡ entry
 is_put geo entry others placed out i =
-    let before : Placed → Bool = λ other. nat_lt (run_start geo other) (run_start geo entry) in
-    let behind : Placed → Bool = λ other. nat_lt (run_start geo entry) (run_start geo other) in
+    let before = begins_before geo entry in
+    let behind = begins_behind geo entry in
     elim (in_append (filter before others) (entry ∷ filter behind others) placed i) [
       | inl j ↦ absurd (out (in_kept_from before others placed j))
       | inr j ↦ last behind j
@@ -149,17 +125,14 @@ is_put geo entry others placed out i =
 
 -- no other entry has the key
 no_other : (key : List ℕ) (entries : List Placed) (placed : Placed) → placed.key ≡ key → In placed (without key entries) → ⊥
-no_other key entries placed is i =
-    let kept = in_kept (λ entry. not (bytes_eq entry.key key)) entries placed i in
-    let same : bytes_eq placed.key key ≡ true = (bytes_eq-Decides placed.key key).1 is in
-    let clash : false ≡ true = rw same at kept in cc clash
+no_other key entries placed is i = in_has (λ entry. entry.key ≢ key) (without key entries) placed (keys_differ key entries) i is
 
 -- how a change's new entry goes to its place
-record Goes (geo : Geo) (state : State) (op : Op) (key : List ℕ) (placed : Placed) : Type 0 where
-  value : List ℕ
-  spot : Spot
-  spot_is : spot_in (room_for geo state key (need geo (length key) (length value))) (found key state) ≡ Some spot
-  placed_is : placed ≡ entry_at key value spot.place spot.chunk
+pub record Goes (geo : Geo) (state : State) (op : Op) (key : List ℕ) (placed : Placed) : Type 0 where
+  pub value : List ℕ
+  pub spot : Spot
+  pub spot_is : spot_in (room_for geo state key (need geo (length key) (length value))) (found key state) ≡ Some spot
+  pub placed_is : placed ≡ entry_at key value spot.place spot.chunk
 
 goes_by : (geo : Geo) (state : State) (op : Op) (key : List ℕ) (placed : Placed) → placed.key ≡ key → (value : Option (List ℕ))
     → In placed (after geo (change_of geo state op key value) state).entries → Goes geo state op key placed
@@ -178,7 +151,7 @@ goes_by geo state op key placed is (Some value) i =
       placed_is = is_put geo (entry_at key value spot.place spot.chunk) (without key state.entries) placed (no_other key state.entries placed is) i;
     }
 
-goes : (geo : Geo) (segment : ℕ) (state : State) (op : Op) (change : Change) (placed : Placed) → Plans geo segment state op change → Contains (after geo change state).entries placed → placed.key ≡ change.key → Goes geo state op change.key placed
+pub goes : (geo : Geo) (segment : ℕ) (state : State) (op : Op) (change : Change) (placed : Placed) → Plans geo segment state op change → Contains (after geo change state).entries placed → placed.key ≡ change.key → Goes geo state op change.key placed
 goes geo segment state op change placed plans there is =
     let i : In placed (after geo change state).entries = in_from (after geo change state).entries placed there in
     goes_by geo state op change.key placed is (placed_value op) (subst (λ (c : Change). In placed (after geo c state).entries) plans.change_is i)
@@ -190,52 +163,27 @@ never_new geo segment words state op change placed tells plans is apart points =
     let point = points.pointed in
     let of : IsSlotOf geo state placed.place (slot_for geo placed.key placed.chunk) =
     (tier_of geo segment words state placed.place tells points.chained).slots point.0 (slot_for geo placed.key placed.chunk) point.1.inside point.1.slot_is in
-    let chunk : placed.chunk ≡ of.placed.chunk = some_same placed.chunk of.placed.chunk (ap (λ (s : Slot). s.chunk) of.slot_is) in
-    elim (by_key of.placed change.key) [
-      | inl same ↦ apart (at_both placed of.placed of.at.place_is chunk (begins_old geo segment state op change of.placed tells.is_state plans of.at.there same))
-      | inr other ↦ meets of.placed (in_from state.entries of.placed of.at.there) other of.at.place_is chunk
+    let chunk : placed.chunk ≡ of.placed.chunk = same_Some placed.chunk of.placed.chunk (ap (λ (s : Slot). s.chunk) of.slot_is) in
+    elim (key_tells of.placed.key change.key) [
+      | inl same ↦ apart (at_both placed of.placed of.at.place_is chunk (begins_old geo segment state op change of.placed tells.is_state plans of.at.there same.1))
+      | inr other ↦ meets of.placed (in_from state.entries of.placed of.at.there) other.0 of.at.place_is chunk
     ]
   where
-    some_same : (a b : ℕ) → Some a ≡ Some b → a ≡ b
-    some_same a b e = cc e
-
-    not_same : (a b : List ℕ) → a ≢ b → not (bytes_eq a b) ≡ true
-    not_same a b differ = elim (cases_Bool (bytes_eq a b)) [
-      | inl same ↦ absurd (differ ((bytes_eq-Decides a b).0 same))
-      | inr other ↦ rw other refl
-    ]
-
-    start_same : (geo : Geo) (a b : Placed) → a.place ≡ b.place → b.chunk ≡ a.chunk → run_start geo a ≡ run_start geo b
-    start_same geo a b place chunk = rw (place, chunk) refl
-
     at_both : (placed stood : Placed) → stood.place ≡ placed.place → placed.chunk ≡ stood.chunk → BeginsAt change.old_run stood.place stood.chunk → BeginsAt change.old_run placed.place placed.chunk
     at_both placed stood place chunk h = subst (λ (c : ℕ). BeginsAt change.old_run placed.place c) (sym chunk) (subst (λ (p : ℕ). BeginsAt change.old_run p stood.chunk) place h)
 
-    meets : (stood : Placed) → In stood state.entries → stood.key ≢ change.key → stood.place ≡ placed.place → placed.chunk ≡ stood.chunk → ⊥
+    meets : (stood : Placed) → In stood state.entries → bytes_eq stood.key change.key ≡ false → stood.place ≡ placed.place → placed.chunk ≡ stood.chunk → ⊥
     meets stood i other place chunk =
         let new = goes geo segment state op change placed plans is.there is.key_is in
-        let fits' = (in_has (IsPlaced geo segment (after geo change state).chain) (after geo change state).entries placed
-        (recursion_from_All (IsPlaced geo segment (after geo change state).chain) (after geo change state).entries plans.leads.placed) (in_from (after geo change state).entries placed is.there)).run.fits in
+        let fits' = (is_placed plans.leads placed is.there).run.fits in
         let fits : Fits geo (length change.key) (length new.value) = subst (λ (p : Placed). Fits geo (length p.key) (length p.value)) new.placed_is fits' in
         let starts = starts_apart geo segment state change.key new.value new.spot tells.is_state fits (room_for geo state change.key (need geo (length change.key) (length new.value))) refl new.spot_is in
-        let kept : In stood (without change.key state.entries) = in_kept_to (λ entry. not (bytes_eq entry.key change.key)) state.entries stood i (not_same stood.key change.key other) in
-        in_has (λ other. run_start geo other ≢ run_start geo (entry_at change.key new.value new.spot.place new.spot.chunk)) (without change.key state.entries) stood
-        (recursion_from_All (λ other. run_start geo other ≢ run_start geo (entry_at change.key new.value new.spot.place new.spot.chunk)) (without change.key state.entries) starts) kept
-        (start_same geo stood placed place chunk ∙ ap (run_start geo) new.placed_is)
-
--- an entry stands in a tier of the chain
-in_chain : (geo : Geo) (segment : ℕ) (words : List ℕ) (state : State) (placed : Placed) → Tells geo segment words state → Contains state.entries placed → Contains (linked geo words).places placed.place
-in_chain geo segment words state placed tells there =
-    let is = in_has (IsPlaced geo segment state.chain) state.entries placed (recursion_from_All (IsPlaced geo segment state.chain) state.entries tells.is_state.placed) (in_from state.entries placed there) in
-    subst (λ (c : List ℕ). Contains c placed.place) (sym tells.chain) is.chained
-
-place_low : (geo : Geo) (segment : ℕ) (words : List ℕ) (state : State) (placed : Placed) → Tells geo segment words state → Contains state.entries placed → placed.place < geo.tiers
-place_low geo segment words state placed tells there =
-    let is = in_has (IsPlaced geo segment state.chain) state.entries placed (recursion_from_All (IsPlaced geo segment state.chain) state.entries tells.is_state.placed) (in_from state.entries placed there) in
-    in_has (λ place. place < geo.tiers) state.chain placed.place (recursion_from_All (λ place. place < geo.tiers) state.chain tells.is_state.chain.inside) (in_from state.chain placed.place is.chained)
+        let kept : In stood (without change.key state.entries) = in_kept_to (λ entry. not (bytes_eq entry.key change.key)) state.entries stood i (not_from_false (bytes_eq stood.key change.key) other) in
+        All-contains (λ other. run_start geo other ≢ run_start geo (entry_at change.key new.value new.spot.place new.spot.chunk)) (without change.key state.entries) stood starts (in_to (without change.key state.entries) stood kept)
+        (start_same geo stood placed place (sym chunk) ∙ ap (run_start geo) new.placed_is)
 
 -- an entry's words, rounded up to chunks
-words_within : (words size : ℕ) → 1 ≤ size → words ≤ parts_for size words * size
+pub words_within : (words size : ℕ) → 1 ≤ size → words ≤ parts_for size words * size
 words_within words size some =
     by_division words size ((words + size - 1) / size) ((words + size - 1) % size) (div-add-mod (words + size - 1) size) (mod-lt (words + size - 1) some)
   where
@@ -243,9 +191,9 @@ words_within words size some =
     by_division words size parts rest e below = grind arith
 
 -- an entry that stands has its first word, its key's words and its checksum
-stands_between : (geo : Geo) (words : List ℕ) (old new : Placed) → IsSegmentWords geo words → old.place < geo.tiers → Stands geo words old → IsBetween geo words old new
+stands_between : (geo : Geo) (words : List ℕ) (old new : Placed) → length words ≡ words_in_segment geo → old.place < geo.tiers → Stands geo words old → IsBetween geo words old new
 unfolding reading_at
-stands_between geo words old new are low stands =
+stands_between geo words old new many low stands =
     let at : ℕ = chunk_at geo old.place old.chunk in
     let head : ℕ = get_or words at 0 in
     let key : List ℕ = key_bytes geo words old.place old.chunk head in
@@ -257,7 +205,7 @@ stands_between geo words old new are low stands =
     let enough = words_within (2 + parts_for 8 (key_len head) + parts_for 8 (value_len head)) geo.chunk_words chunk_words in
     let pk : ℕ = parts_for 8 (key_len head) in
     let pv : ℕ = parts_for 8 (value_len head) in
-    let room : at + (2 + pk + pv) ≤ length words = room_is at (2 + pk + pv) (need geo (key_len head) (value_len head)) geo.chunk_words (words_in_segment geo) (length words) enough range are.many in
+    let room : at + (2 + pk + pv) ≤ length words = room_is at (2 + pk + pv) (need geo (key_len head) (value_len head)) geo.chunk_words (words_in_segment geo) (length words) enough range many in
     let key_size : length key ≡ 8 * pk = bytes_len (take pk (drop (at + 2 + 0) words)) ∙ ap (λ (n : ℕ). 8 * n) (length-take-le pk (drop (at + 2 + 0) words) (behind_room at 0 pk pv (length words) (drop (at + 2 + 0) words) (length-drop (at + 2 + 0) words) room (omega arith))) in
     let value_size : length value ≡ 8 * pv = bytes_len (take pv (drop (at + 2 + pk) words)) ∙ ap (λ (n : ℕ). 8 * n) (length-take-le pv (drop (at + 2 + pk) words) (behind_key at pk pv (length words) (drop (at + 2 + pk) words) (length-drop (at + 2 + pk) words) room)) in
     let key_words : key ≡ filled old.key = filled_is (key_len head) key key_size read.key_filled ∙ ap filled (sym read.key_is) in
@@ -281,9 +229,6 @@ stands_between geo words old new are low stands =
     behind_key : (at pk pv len : ℕ) (rest : List ℕ) → length rest ≡ len - (at + 2 + pk) → at + (2 + pk + pv) ≤ len → pv ≤ length rest
     behind_key at pk pv len rest e room = omega arith
 
-    whole_words : (count len : ℕ) → len ≡ 8 * parts_for 8 count → count ≤ len
-    whole_words count len e = omega arith
-
     halves : (head key value : ℕ) → key ≡ head % 2 ^ 32 → value ≡ head / 2 ^ 32 → head ≡ key + 2 ^ 32 * value
     halves head key value e e' = omega arith
 
@@ -294,18 +239,18 @@ stands_between geo words old new are low stands =
     behind_room at from pk pv len rest e room within = omega arith
 
 -- words that rest for a state are torn for each change that is planned for it
-pub resting_torn : (geo : Geo) (segment : ℕ) (words : List ℕ) (state : State) (op : Op) (change : Change) → IsSegmentWords geo words → Resting geo segment words state → Plans geo segment state op change → Torn geo words state change
-resting_torn geo segment words state op change are rests plans =
+pub resting_torn : (geo : Geo) (segment : ℕ) (words : List ℕ) (state : State) (op : Op) (change : Change) → Resting geo segment words state → Plans geo segment state op change → Torn geo words state change
+resting_torn geo segment words state op change rests plans =
     let tells = resting_tells geo segment words state rests in
     record {
       others_stand = λ placed is. tells.stand placed is.there;
       others_pointed = λ placed is. (let once = tells.pointed placed is.there in (once.0, once.1));
       slots = slots_are geo segment words state op change tells plans;
       old_whole = λ placed is other points. tells.stand placed is.there;
-      new_whole = λ placed is other apart points. absurd (never_new geo segment words state op change placed tells plans is apart points);
+      new_whole = λ placed is apart points. absurd (never_new geo segment words state op change placed tells plans is apart points);
       pointed = λ old new is_old is_new. inl (record { chained = in_chain geo segment words state old tells is_old.there; pointed = (let once = tells.pointed old is_old.there in (once.0, once.1)) });
       whole = tells.whole;
       chain = inl tells.chain;
       unlinked = λ place inside out. tells.unlinked place inside (λ chained. out (subst (λ (c : List ℕ). Contains c place) (sym tells.chain) chained));
-      between = λ old new is_kind is_old is_new. stands_between geo words old new are (place_low geo segment words state old tells is_old.there) (tells.stand old is_old.there);
+      between = λ old new is_kind is_old is_new. stands_between geo words old new (resting_many geo segment words state rests) (place_low tells.is_state.chain old.place (is_placed tells.is_state old is_old.there).chained) (tells.stand old is_old.there);
     }

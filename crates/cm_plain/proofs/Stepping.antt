@@ -1,5 +1,5 @@
 -- How the changes of a segment are steps of the bounded map.
-use Rattle.std.proofs.Common.{◌≡◌, ◌≢◌, ◌∙◌, ℕ, ◌+◌, ◌≤◌, ◌==◌, ◌&&◌, Bool, true, false, not, List, [], ◌∷◌, ◌++◌, length, Option, Some, None, refl, sym, ap, subst, arith}
+use Rattle.std.proofs.Common.{◌≡◌, ◌≢◌, ◌∙◌, ℕ, ◌+◌, ◌==◌, ◌&&◌, Bool, true, false, not, List, [], ◌∷◌, ◌++◌, length, Option, Some, None, refl, sym, ap, subst}
 use Rattle.std.specs.Prelude.{if◌then◌else◌, is_some}
 use Rattle.cm_geo.specs.declared.geo.Geo.{Geo}
 use Rattle.cm_geo.specs.Hash.{segment_of_key}
@@ -20,18 +20,16 @@ use Rattle.cm_plain.specs.Placings.{IsPlacing}
 use Rattle.cm_plain.specs.Segments.{IsSegment, Places, PlacesFor, Segment}
 use Rattle.cm_plain.specs.States.{run_start}
 use Rattle.std.specs.List.{All}
+use Rattle.std.proofs.lemmas.Option.{same_Some}
 use Rattle.cm_plain.proofs.Placing.{chain_for, placed_state, starts_apart}
-
--- two spots that are there are equal
-some_same : {a b : Spot} → Some a ≡ Some b → a ≡ b
-some_same e = cc e
+use Rattle.cm_plain.proofs.Seen.{next_counted}
 
 -- the chain after a value went to its room
 pub chain_is : (room : Room) (old : Option Placed) (spot : Spot) (chain : List ℕ) → spot_in room old ≡ Some spot
     → chain_for room chain ≡ (if is_new_tier room then chain ++ spot.place ∷ [] else chain)
 chain_is InPlace old spot chain e = refl
 chain_is (Elsewhere there) old spot chain e = refl
-chain_is (NewTier place) old spot chain e = let same : place ≡ spot.place = ap (λ (s : Spot). s.place) (some_same e) in rw same refl
+chain_is (NewTier place) old spot chain e = let same : place ≡ spot.place = ap (λ (s : Spot). s.place) (same_Some _ spot e) in rw same refl
 chain_is Nowhere old spot chain e = cc e
 
 -- the state after a value went to its room
@@ -43,9 +41,9 @@ state_with geo state key value room spot =
 after_is : (geo : Geo) (state : State) (op : Op) (key value : List ℕ) (room : Room) (old : Option Placed) (chunks : ℕ) (spot : Spot) → spot_in room old ≡ Some spot
     → after geo (placing geo op key value old room chunks) state ≡ state_with geo state key value room spot
 after_is geo state op key value InPlace None chunks spot e = cc e
-after_is geo state op key value InPlace (Some old) chunks spot e = ap (λ (s : Spot). state_with geo state key value InPlace s) (some_same e)
-after_is geo state op key value (Elsewhere there) old chunks spot e = ap (λ (s : Spot). state_with geo state key value (Elsewhere there) s) (some_same e)
-after_is geo state op key value (NewTier place) old chunks spot e = ap (λ (s : Spot). state_with geo state key value (NewTier place) s) (some_same e)
+after_is geo state op key value InPlace (Some old) chunks spot e = ap (λ (s : Spot). state_with geo state key value InPlace s) (same_Some _ spot e)
+after_is geo state op key value (Elsewhere there) old chunks spot e = ap (λ (s : Spot). state_with geo state key value (Elsewhere there) s) (same_Some _ spot e)
+after_is geo state op key value (NewTier place) old chunks spot e = ap (λ (s : Spot). state_with geo state key value (NewTier place) s) (same_Some _ spot e)
 after_is geo state op key value Nowhere old chunks spot e = cc e
 
 -- the reply to a value that was placed
@@ -87,7 +85,14 @@ step_placed seen grant key value room spot op is fits here room_is at counts gra
     let planned_is : change ≡ planned geo state op key = rw (places.placed, room_is) refl in
     let later : after geo change state ≡ state_with geo state key value room spot = after_is geo state op key value room old chunks spot at in
     let leads : IsState geo seen.segment (after geo change state) = subst (IsState geo seen.segment) (sym later) (placed_state geo seen.segment state key value spot is fits here room room_is at) in
-    let plans : Plans geo seen.segment state op change = record { met = places.met; key = places.keyed; change_is = planned_is; leads = leads } in
+    let plans : Plans geo seen.segment state op change = record {
+      is_state = is;
+      met = places.met;
+      room = rw (places.wanted, room_is) (there_is room old spot at);
+      key = places.keyed;
+      change_is = planned_is;
+      leads = leads;
+    } in
     let course_is : course geo state seen.number grant op ≡ goes = rw (places.met, places.wanted, room_is, there_is room old spot at, counts, granted) refl in
     subst (λ (it : Course). StepBy it geo seen.segment state op (state_with geo state key value room spot) (reply_beside (is_some old))) (sym course_is)
     (change, plans, sym later, sym (reply_is room old op key))
@@ -114,11 +119,8 @@ pub is_segment_with : (seen : Segment) (key value : List ℕ) (placing : Placing
     → IsSegment (segment_with seen key value placing)
 is_segment_with seen key value placing is fits here placed counts = record {
   rests = placed_state seen.geo seen.segment seen.state key value placing.spot is.rests fits here placing.room placed.room_is placed.spot_is;
-  counted = below seen.number last_number is.counted counts;
+  counted = next_counted is counts;
 }
-  where
-    below : (number last : ℕ) → number ≤ last → number ≢ last → number + 1 ≤ last
-    below number last h ne = omega arith
 
 -- the segment that was made is the one with the value
 pub same_segment : (seen : Segment) (key value : List ℕ) (placing : Placing) (links : Bool) (chain : List ℕ) (entries : List Placed)

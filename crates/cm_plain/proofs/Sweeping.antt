@@ -2,16 +2,15 @@
 use Rattle.std.proofs.Common.{◌≡◌, ◌∙◌, ℕ, Bool, true, false, List, [], ◌∷◌, All, refl, sym, ap, subst, inl, inr}
 use Rattle.std.specs.Prelude.{if◌then◌else◌, is_some}
 use Rattle.std.specs.List.{AllByRecursion, list_any}
-use Rattle.std.specs.Str.{bytes_eq}
-use Rattle.std.proofs.lemmas.Bool.{cases_Bool}
+use Rattle.std.proofs.lemmas.Bool.{both_ways, cases_Bool}
 use Rattle.std.proofs.lemmas.List.Elements.{recursion_from_All}
-use Rattle.std.proofs.lemmas.Slice.Eq.{bytes_eq-Decides}
 use Rattle.cm_plain.specs.declared.op.Op.TheVariants.{Sweep}
 use Rattle.cm_plain.specs.declared.placed.Placed.{Placed}
 use Rattle.cm_plain.specs.declared.reply.Reply.TheVariants as reply
 use Rattle.cm_plain.specs.States.{found_among}
 use Rattle.cm_plain.specs.Steps.{Course, StepBy, course, has_prefix, stays}
 use Rattle.cm_plain.specs.Segments.{Answered, IsLeastKey, Segment, Sweeps, SweepsLeast, Takes, reply_to_taking}
+use Rattle.cm_plain.proofs.Keys.{key_tells}
 
 -- whether a key has the prefix
 abbrev any_with : List ℕ → List Placed → Bool
@@ -27,11 +26,9 @@ found_any : (prefix key : List ℕ) (entries : List Placed) → has_prefix prefi
 found_any prefix key [] passes there = cc there
 found_any prefix key (entry ∷ entries) passes there = elim (cases_Bool (has_prefix prefix entry.key)) [
   | inl here ↦ rw here refl
-  | inr fails ↦ elim (cases_Bool (bytes_eq entry.key key)) [
-    | inl same ↦
-        let is : entry.key ≡ key = (bytes_eq-Decides entry.key key).0 same in
-        let no : true ≡ false = sym passes ∙ sym (ap (has_prefix prefix) is) ∙ fails in cc no
-    | inr differs ↦ rw fails (found_any prefix key entries passes (rw differs at there))
+  | inr fails ↦ elim (key_tells entry.key key) [
+    | inl same ↦ absurd (both_ways (has_prefix prefix key) (sym (ap (has_prefix prefix) same.1) ∙ fails) passes)
+    | inr differs ↦ rw fails (found_any prefix key entries passes (rw differs.0 at there))
   ]
 ]
 

@@ -1,5 +1,5 @@
 -- How taking an entry away is a step of the bounded map.
-use Rattle.std.proofs.Common.{◌≡◌, ◌≢◌, ℕ, ◌+◌, ◌≤◌, ◌==◌, Bool, true, false, List, Option, Some, None, refl, sym, subst, arith, inl, inr}
+use Rattle.std.proofs.Common.{◌≡◌, ◌≢◌, ℕ, ◌+◌, ◌==◌, Bool, true, false, List, Option, Some, None, refl, sym, subst, inl, inr}
 use Rattle.std.specs.Prelude.{if◌then◌else◌, is_some}
 use Rattle.std.proofs.lemmas.Bool.{cases_Bool}
 use Rattle.cm_geo.specs.declared.geo.Geo.{Geo}
@@ -13,6 +13,7 @@ use Rattle.cm_plain.specs.Changes.{placed_value, taking, without}
 use Rattle.cm_plain.specs.Steps.{Course, Plans, Step, StepBy, course, goes, is_change, is_value, is_worn, last_number, reply_of, room_wanted, unmet}
 use Rattle.cm_plain.specs.Segments.{Answered, IsSegment, Segment, Takes, TakesFor, reply_to_taking}
 use Rattle.cm_plain.proofs.Placing.{taken_state}
+use Rattle.cm_plain.proofs.Seen.{next_counted}
 
 -- an operation that places nothing wants no room
 no_room : (geo : Geo) (state : State) (op : Op) → placed_value op ≡ None → room_wanted geo state op ≡ InPlace
@@ -28,7 +29,7 @@ no_room geo state (ListAll segment) e = refl
 no_room geo state (Sweep segment prefix) e = refl
 
 -- the reply to an entry's going is one to a change
-is_taken : (op : Op) (key : List ℕ) → is_change (reply_of kind.Remove op key) ≡ true
+pub is_taken : (op : Op) (key : List ℕ) → is_change (reply_of kind.Remove op key) ≡ true
 is_taken (Put key value) changed = refl
 is_taken (Get key) changed = refl
 is_taken (PutIfAbsent key value) changed = refl
@@ -52,11 +53,8 @@ segment_without seen key = record { geo = seen.geo; segment = seen.segment; numb
 pub is_segment_without : (seen : Segment) (key : List ℕ) → IsSegment seen → seen.number ≢ last_number → IsSegment (segment_without seen key)
 is_segment_without seen key is counts = record {
   rests = taken_state seen.geo seen.segment seen.state key is.rests;
-  counted = below seen.number last_number is.counted counts;
+  counted = next_counted is counts;
 }
-  where
-    below : (number last : ℕ) → number ≤ last → number ≢ last → number + 1 ≤ last
-    below number last h ne = omega arith
 
 -- an entry that was taken away was taken by one step
 step_taken : (seen : Segment) (grant : Bool) (key : List ℕ) (op : Op) → IsSegment seen → (seen.number == last_number) ≡ false → TakesFor seen key op
@@ -64,7 +62,9 @@ step_taken : (seen : Segment) (grant : Bool) (key : List ℕ) (op : Op) → IsSe
 step_taken seen grant key op is counts takes =
     let change = taking seen.geo op key (found key seen.state) in
     let plans : Plans seen.geo seen.segment seen.state op change = record {
+      is_state = is.rests;
       met = takes.met;
+      room = rw (no_room seen.geo seen.state op takes.taken) refl;
       key = takes.keyed;
       change_is = rw takes.taken refl;
       leads = taken_state seen.geo seen.segment seen.state key is.rests;

@@ -1,18 +1,22 @@
 -- Words tell at most one state.
-use Rattle.std.proofs.Common.{◌≡◌, ℕ, ◌+◌, ◌<◌, ◌≤◌, ◌⊎◌, Some, List, [], ◌∷◌, Contains, length, get_or, arith, refl, ap, sym, subst, ◌∙◌, zero, suc, inl, inr}
+use Rattle.std.proofs.Common.{◌≡◌, ℕ, ◌+◌, ◌<◌, ◌≤◌, ◌⊎◌, List, [], ◌∷◌, Contains, length, get_or, arith, refl, ap, sym, subst, ◌∙◌, zero, suc, inl, inr}
 use Rattle.std.specs.List.{AllByRecursion}
-use Rattle.std.proofs.lemmas.List.Elements.{recursion_from_All}
+use Rattle.std.proofs.lemmas.List.Elements.{All-contains}
+use Rattle.std.proofs.lemmas.Option.{same_Some}
 use Rattle.cm_geo.specs.declared.geo.Geo.{Geo}
 use Rattle.cm_plain.specs.declared.placed.Placed.{Placed}
 use Rattle.cm_plain.specs.declared.reply.Pair.{Pair}
-use Rattle.cm_plain.specs.States.{IsPlaced, State, chunks_of, pair_of, run_start}
+use Rattle.cm_plain.specs.States.{State, chunks_of, pair_of, run_start}
 use Rattle.cm_plain.specs.Slots.{Slot, slot_for}
 use Rattle.cm_plain.specs.Readings.{entry, reading_at}
 use Rattle.cm_plain.specs.Lawful.{Resting, Tells, TierTells}
 use Rattle.cm_plain.specs.Changes.{entry_at}
-use Rattle.cm_plain.proofs.Each.{Pairs, pairs_from_all}
+use Rattle.cm_plain.proofs.Each.{Pairs}
 use Rattle.cm_plain.proofs.Apart.{Rising, chunks_some}
+use Rattle.cm_plain.proofs.Filling.{one_entry}
 use Rattle.cm_plain.proofs.Standing.{resting_tells}
+use Rattle.cm_plain.proofs.States.{each_rising, is_placed}
+use Rattle.cm_plain.specs.Linked.{linked}
 
 -- an element of a list, by recursion
 abbrev pub In : {X : Type 0} → X → List X → Type 0
@@ -61,7 +65,7 @@ behind_first geo x xs ys rising all z i = (later (all z (inr i)))
     later (inl e) = absurd (self (run_start geo x) (chunks_of geo x) (chunks_some geo x) (subst (λ (w : Placed). Rising geo x w) e (in_has (Rising geo x) xs z rising.0 i)))
 
 -- two lists of the same entries in rising order are one list
-same_entries : (geo : Geo) (xs ys : List Placed) → Pairs (Rising geo) xs → Pairs (Rising geo) ys → ((z : Placed) → In z xs → In z ys) → ((z : Placed) → In z ys → In z xs) → xs ≡ ys
+pub same_entries : (geo : Geo) (xs ys : List Placed) → Pairs (Rising geo) xs → Pairs (Rising geo) ys → ((z : Placed) → In z xs → In z ys) → ((z : Placed) → In z ys → In z xs) → xs ≡ ys
 same_entries geo [] [] rising rising' to from = refl
 same_entries geo [] (y ∷ ys) rising rising' to from = absurd (from y (inl refl))
 same_entries geo (x ∷ xs) [] rising rising' to from = absurd (to x (inl refl))
@@ -73,31 +77,31 @@ same_entries geo (x ∷ xs) (y ∷ ys) rising rising' to from =
     let rest : xs ≡ ys = same_entries geo xs ys rising.1 rising'.1 (behind_first geo x xs ys rising to') (behind_first geo x ys xs rising'' from') in
     rw (first, rest) refl
 
+-- an entry stands in a tier of the chain
+pub in_chain : (geo : Geo) (segment : ℕ) (words : List ℕ) (state : State) (placed : Placed) → Tells geo segment words state → Contains state.entries placed → Contains (linked geo words).places placed.place
+in_chain geo segment words state placed tells there =
+    subst (λ (c : List ℕ). Contains c placed.place) (sym tells.chain) (is_placed tells.is_state placed there).chained
+
+-- a tier's words
+pub tier_of : (geo : Geo) (segment : ℕ) (words : List ℕ) (state : State) (place : ℕ) → Tells geo segment words state → Contains (linked geo words).places place → TierTells geo words state place
+tier_of geo segment words state place tells chained =
+    All-contains (TierTells geo words state) state.chain place tells.tiers (subst (λ (c : List ℕ). Contains c place) tells.chain chained)
+
 -- an entry that words tell is told of every state that they tell
 told_too : (geo : Geo) (segment : ℕ) (words : List ℕ) (one other : State) → Tells geo segment words one → Tells geo segment words other → (placed : Placed) → Contains one.entries placed → Contains other.entries placed
 told_too geo segment words one other tells tells' placed there =
     let point = tells.pointed placed there in
-    let chained = in_has (IsPlaced geo segment one.chain) one.entries placed (recursion_from_All (IsPlaced geo segment one.chain) one.entries tells.is_state.placed) (in_from one.entries placed there) in
-    let chain : one.chain ≡ other.chain = sym tells.chain ∙ tells'.chain in
-    let here : Contains other.chain placed.place = subst (λ (c : List ℕ). Contains c placed.place) chain chained.chained in
-    let tier : TierTells geo words other placed.place =
-    in_has (TierTells geo words other) other.chain placed.place (recursion_from_All (TierTells geo words other) other.chain tells'.tiers) (in_from other.chain placed.place here) in
+    let tier = tier_of geo segment words other placed.place tells' (in_chain geo segment words one placed tells there) in
     let of = tier.slots point.0 (slot_for geo placed.key placed.chunk) point.1.inside point.1.slot_is in
-    let chunk : placed.chunk ≡ of.placed.chunk = some_same placed.chunk of.placed.chunk (ap (λ (s : Slot). s.chunk) of.slot_is) in
+    let chunk : placed.chunk ≡ of.placed.chunk = same_Some placed.chunk of.placed.chunk (ap (λ (s : Slot). s.chunk) of.slot_is) in
     let stands : reading_at geo words placed.place placed.chunk ≡ entry (pair_of placed) = tells.stand placed there in
     let stands' : reading_at geo words of.placed.place of.placed.chunk ≡ entry (pair_of of.placed) = tells'.stand of.placed of.at.there in
     let same : placed ≡ of.placed = same_placed geo words placed of.placed (sym of.at.place_is) chunk stands stands' in
     subst (λ (p : Placed). Contains other.entries p) (sym same) of.at.there
   where
-    one_entry : (p q : Pair) → entry p ≡ entry q → p ≡ q
-    one_entry p q e = cc e
-
     same_fields : (p q : Placed) → p.place ≡ q.place → p.chunk ≡ q.chunk → p.key ≡ q.key → p.value ≡ q.value → p ≡ q
     same_fields p q place chunk key value =
         let e : entry_at p.key p.value p.place p.chunk ≡ entry_at q.key q.value q.place q.chunk = rw (key, value, place, chunk) refl in e
-
-    some_same : (a b : ℕ) → Some a ≡ Some b → a ≡ b
-    some_same a b e = cc e
 
     same_placed : (geo : Geo) (words : List ℕ) (p q : Placed) → p.place ≡ q.place → p.chunk ≡ q.chunk
         → reading_at geo words p.place p.chunk ≡ entry (pair_of p) → reading_at geo words q.place q.chunk ≡ entry (pair_of q) → p ≡ q
@@ -113,7 +117,7 @@ resting_once geo segment words one other rests rests' =
     let tells' = resting_tells geo segment words other rests' in
     let chain : one.chain ≡ other.chain = sym tells.chain ∙ tells'.chain in
     let entries : one.entries ≡ other.entries = same_entries geo one.entries other.entries
-    (pairs_from_all (Rising geo) one.entries tells.is_state.runs) (pairs_from_all (Rising geo) other.entries tells'.is_state.runs)
+    (each_rising tells.is_state) (each_rising tells'.is_state)
     (λ z i. in_from other.entries z (told_too geo segment words one other tells tells' z (in_to one.entries z i)))
     (λ z i. in_from one.entries z (told_too geo segment words other one tells' tells z (in_to other.entries z i))) in
     same_state one other chain entries

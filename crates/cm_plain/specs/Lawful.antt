@@ -79,8 +79,9 @@ pub record EndsHead (geo : Geo) (words : List ℕ) (place : ℕ) : Type 0 where
   pub third : word_at words (tier_at geo place + 2) ≡ 0
   pub fourth : word_at words (tier_at geo place + 3) ≡ 0
 
--- the words of a segment stand for a state, apart from the lock word and the change number
+-- the words of a segment, as many as it has, stand for a state, apart from the lock word and the change number
 pub record LawfulApart (geo : Geo) (segment : ℕ) (words : List ℕ) (state : State) : Type 0 where
+  pub many : length words ≡ words_in_segment geo
   pub fourth : word_at words 3 ≡ 0
   pub heads : All (EndsHead geo words) state.chain
   pub tells : Tells geo segment words state

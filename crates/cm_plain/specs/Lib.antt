@@ -3,6 +3,7 @@ pub mod Limits
 pub mod States
 pub mod Rooms
 pub mod Changes
+pub mod Plans
 pub mod Steps
 pub mod History
 pub mod Segments

@@ -87,9 +87,19 @@ ChangesKey (Count segment) state changed = ⊥
 ChangesKey (ListAll segment) state changed = ⊥
 ChangesKey (Sweep segment prefix) state changed = (has_prefix prefix changed ≡ true) × (is_some (found changed state) ≡ true)
 
--- the plan of a change that an operation makes to a state: what it leads to is a state again
+-- the room that an operation needs, if it places a value
+abbrev pub room_wanted : Geo → State → Op → Room
+room_wanted geo state (Put key value) = room_for geo state key (need geo (length key) (length value))
+room_wanted geo state (PutIfAbsent key value) = room_for geo state key (need geo (length key) (length value))
+room_wanted geo state (Replace key value) = room_for geo state key (need geo (length key) (length value))
+room_wanted geo state (ReplaceIf key expected value) = room_for geo state key (need geo (length key) (length value))
+room_wanted geo state _ = InPlace
+
+-- the plan of a change that an operation makes to a state: there is room for the value, if one is placed, and what it leads to is a state again
 pub record Plans (geo : Geo) (segment : ℕ) (state : State) (op : Op) (change : Change) : Type 0 where
+  pub is_state : IsState geo segment state
   pub met : would_change op state ≡ true
+  pub room : is_nowhere (room_wanted geo state op) ≡ false
   pub key : ChangesKey op state change.key
   pub change_is : change ≡ planned geo state op change.key
   pub leads : IsState geo segment (after geo change state)
@@ -101,14 +111,6 @@ reply_of kind.Remove op key = reply.Removed
 reply_of kind.Fresh op key = reply.New
 reply_of kind.InPlace op key = reply.Replaced
 reply_of kind.Relocate op key = reply.Replaced
-
--- the room that an operation needs, if it places a value
-abbrev pub room_wanted : Geo → State → Op → Room
-room_wanted geo state (Put key value) = room_for geo state key (need geo (length key) (length value))
-room_wanted geo state (PutIfAbsent key value) = room_for geo state key (need geo (length key) (length value))
-room_wanted geo state (Replace key value) = room_for geo state key (need geo (length key) (length value))
-room_wanted geo state (ReplaceIf key expected value) = room_for geo state key (need geo (length key) (length value))
-room_wanted geo state _ = InPlace
 
 -- what is done with an operation
 pub data Course : Type 0 where

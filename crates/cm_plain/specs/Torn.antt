@@ -59,9 +59,9 @@ pub record Torn (geo : Geo) (words : List ℕ) (state : State) (change : Change)
   -- each slot of a chained tier that isn't empty is another entry's or the change's
   pub slots : (place number : ℕ) (slot : Slot) → Contains (linked geo words).places place → number < 2 * geo.chunks → slot_in geo words place number ≡ Some slot
       → IsOthersSlot geo state change place slot ⊎ IsItsSlot geo change place slot
-  -- unless the value is replaced in place, what a slot points to is whole: the old entry, and a new one apart from it
+  -- what a slot points to is whole: the old entry, unless its value is replaced in place, and a new one apart from it
   pub old_whole : (placed : Placed) → IsItsEntry state change placed → (change.kind ≢ kind.InPlace) → IsPointedInChain geo words placed → Stands geo words placed
-  pub new_whole : (placed : Placed) → IsItsEntry (after geo change state) change placed → (change.kind ≢ kind.InPlace)
+  pub new_whole : (placed : Placed) → IsItsEntry (after geo change state) change placed
       → (BeginsAt change.old_run placed.place placed.chunk → ⊥) → IsPointedInChain geo words placed → Stands geo words placed
   -- where the key was there and stays, a slot points to its old or its new entry
   pub pointed : (old new : Placed) → IsItsEntry state change old → IsItsEntry (after geo change state) change new

@@ -22,7 +22,7 @@ pub use bytes::Bytes;
 pub use list_of::ListOf;
 pub use op::Op;
 pub use placed::Placed;
-pub use plan::{PlanKind, Run};
+pub use plan::{Ask, Plan, PlanKind, Run};
 pub use receipt::{MapLine, Receipt};
 pub use reply::{Pair, PairList, Reply};
 pub use room::{Room, Spot};

@@ -2,14 +2,11 @@
 use Rattle.std.specs.Prelude.{Some, None}
 use Rattle.std.proofs.Common.{◌≡◌, ◌<◌, ◌≤◌, [], ◌∷◌, ℕ, List, true, false, length, refl, subst, suc, zero, arith, inl, inr, ◌==◌, ◌++◌}
 use Rattle.std.proofs.lemmas.Bool.{cases_Bool}
+use Rattle.std.proofs.lemmas.Option.{same_Some}
 use Rattle.csv.specs.Machine.{Read, next_record, step, is_end, ends_at_end, in_field, start_field, start_record}
 use Rattle.csv.specs.Reading.{Reached, records_from, default_config}
 use Rattle.csv.specs.declared.parser.State.{State}
 use Rattle.csv.specs.declared.parser.State.TheVariants as st
-
--- equal answers have equal values
-some-same : {A : Type 0} {a b : A} → Some a ≡ Some b → a ≡ b
-some-same e = cc e
 
 -- the end of the text is no record
 nothing-left : (s : State) (p : Read) → ends_at_end s ≡ false → next_record default_config s [] [] [] ≡ Some p → ⊥
@@ -85,13 +82,13 @@ next-any : (s : State) (fields : List (List ℕ)) (field : List ℕ) (xs : List 
 unfolding next_record
 next-any s fields field [] p e = elim (cases_Bool (ends_at_end s)) [
   | inl a ↦
-      let got : (fields ++ (field ∷ []), st.StartRecord, []) ≡ p = some-same (rw a at e) in
+      let got : (fields ++ (field ∷ []), st.StartRecord, []) ≡ p = same_Some _ p (rw a at e) in
       subst (Less 0) got (record { fewer = omega arith; quiet = refl })
   | inr a ↦ let h = rw a at e in cc h
 ]
 next-any s fields field (c ∷ rest) p e = elim (cases_Bool (is_end (step default_config s c).1)) [
   | inl a ↦
-      let got = some-same (rw a at e) in
+      let got = same_Some _ p (rw a at e) in
       subst (Less (suc (length rest))) got (record { fewer = omega arith; quiet = step-end s c a })
   | inr a ↦
       let h = next-any (step default_config s c).0 _ _ rest p (rw a at e) in
@@ -103,7 +100,7 @@ pub next-less : (s : State) (c : ℕ) (rest : List ℕ) (p : Read) → next_reco
 unfolding next_record
 next-less s c rest p e = elim (cases_Bool (is_end (step default_config s c).1)) [
   | inl a ↦
-      let got = some-same (rw a at e) in
+      let got = same_Some _ p (rw a at e) in
       subst (Less (length rest)) got (record { fewer = omega arith; quiet = step-end s c a })
   | inr a ↦ next-any (step default_config s c).0 _ _ rest p (rw a at e)
 ]

@@ -3,8 +3,9 @@ use Rattle.std.proofs.Common.{◌≡◌, ℕ, ◌+◌, ◌<◌, ◌≤◌, ◌||
 use Rattle.std.specs.List.{range_with_len}
 use Rattle.std.specs.Str.{bytes_eq}
 use Rattle.std.specs.Prelude.{decimal}
-use Rattle.std.proofs.lemmas.Bool.{cases_Bool}
+use Rattle.std.proofs.lemmas.Bool.{cases_Bool, or_parts}
 use Rattle.std.proofs.lemmas.Bool.Decides.{nat_tests}
+use Rattle.std.proofs.lemmas.Option.{same_Some}
 use Rattle.std.proofs.lemmas.List.Elements.{All-cons, All-nil}
 use Rattle.cm_geo.specs.declared.geo.Geo.{Geo}
 use Rattle.cm_geo.specs.Need.{Fits, need}
@@ -40,17 +41,13 @@ key_kept key asked got e =
     let most : length key ≤ 256 = grind (arith, nat_tests, short.clear) in
     ((one, most), ok_same short.is)
 
-neither : (a b : Bool) → (a || b) ≡ false → (a ≡ false) × (b ≡ false)
-neither false b e = (refl, e)
-neither true b e = cc e
-
 -- a key and a value that were accepted
 entry_kept : (geo : Geo) (key value : List ℕ) (asked got : Op) → written geo key value asked ≡ Ok got → Fits geo (length key) (length value) × (asked ≡ got)
 entry_kept geo key value asked got e =
     let some = passes (is_empty key) cause.Argument (unless (is_long_key key || (is_long_value value || is_large geo key value)) cause.TooLarge (Ok asked)) got e in
     let small = passes (is_long_key key || (is_long_value value || is_large geo key value)) cause.TooLarge (Ok asked) got some.is in
-    let keys = neither (is_long_key key) (is_long_value value || is_large geo key value) small.clear in
-    let values = neither (is_long_value value) (is_large geo key value) keys.1 in (
+    let keys = or_parts (is_long_key key) (is_long_value value || is_large geo key value) small.clear in
+    let values = or_parts (is_long_value value) (is_large geo key value) keys.1 in (
       record {
         key_some = grind (arith, nat_tests, some.clear);
         key_short = grind (arith, nat_tests, keys.0);
@@ -63,14 +60,19 @@ entry_kept geo key value asked got e =
     not_over : (most n : ℕ) → nat_lt most n ≡ false → n ≤ most
     not_over most n e = grind (arith, nat_tests)
 
-value_kept : (value : List ℕ) → is_long_value value ≡ false → IsValue value
-value_kept value e = grind (arith, nat_tests)
+-- an expected value that was accepted
+expected_kept : (key expected : List ℕ) (result : Result Op LineCause) (got : Op)
+    → unless (is_empty key) cause.Argument (unless (is_long_value expected) cause.TooLarge result) ≡ Ok got → IsValue expected × (result ≡ Ok got)
+expected_kept key expected result got e =
+    let some = passes (is_empty key) cause.Argument (unless (is_long_value expected) cause.TooLarge result) got e in
+    let short = passes (is_long_value expected) cause.TooLarge result got some.is in
+    (grind (arith, nat_tests, short.clear), short.is)
 
 -- a number that was read is below its limit
 found_below : (test : ℕ → Bool) (low n found : ℕ) → find test (range_with_len low n) ≡ Some found → found < low + n
 found_below test low zero found e = cc e
 found_below test low (suc n) found e = elim (cases_Bool (test low)) [
-  | inl here ↦ let same : Some low ≡ Some found = rw here at e in let is : low ≡ found = cc same in omega (arith, is)
+  | inl here ↦ let is = same_Some low found (rw here at e) in omega (arith, is)
   | inr later ↦ let below = found_below test (low + 1) n found (rw later at e) in omega (arith, below)
 ]
 
@@ -95,47 +97,51 @@ segment_kept limit text asked large got (Some segment) is e =
 as_op : (geo : Geo) (asked got : Op) → asked ≡ got → KeepsLimits geo asked → KeepsLimits geo got
 as_op geo asked got same h = subst (KeepsLimits geo) same h
 
+-- what a key's limits give
+by_key : (geo : Geo) (key : List ℕ) (asked got : Op) → (IsKey key → KeepsLimits geo asked) → keyed key asked ≡ Ok got → KeepsLimits geo got
+by_key geo key asked got gives e = let k = key_kept key asked got e in as_op geo asked got k.1 (gives k.0)
+
+-- what an entry's limits give
+by_entry : (geo : Geo) (key value : List ℕ) (asked got : Op) → (Fits geo (length key) (length value) → KeepsLimits geo asked) → written geo key value asked ≡ Ok got → KeepsLimits geo got
+by_entry geo key value asked got gives e = let k = entry_kept geo key value asked got e in as_op geo asked got k.1 (gives k.0)
+
 -- an operation that was accepted keeps the limits
 op_kept : (geo : Geo) (lists : ℕ) (verb : Verb) (arguments : List (List ℕ)) (got : Op) → op_of geo lists verb arguments ≡ Ok got → KeepsLimits geo got
 op_kept geo lists verb.Put [] got e = cc e
 op_kept geo lists verb.Put (key ∷ []) got e = cc e
 op_kept geo lists verb.Put (key ∷ value ∷ []) got e =
-    let k = entry_kept geo key value (op.Put key value) got e in as_op geo (op.Put key value) got k.1 k.0
+    by_entry geo key value (op.Put key value) got (λ fits. fits) e
 op_kept geo lists verb.Put (key ∷ value ∷ other ∷ others) got e = cc e
 op_kept geo lists verb.Get [] got e = cc e
-op_kept geo lists verb.Get (key ∷ []) got e = let k = key_kept key (op.Get key) got e in as_op geo (op.Get key) got k.1 k.0
+op_kept geo lists verb.Get (key ∷ []) got e = by_key geo key (op.Get key) got (λ is. is) e
 op_kept geo lists verb.Get (key ∷ other ∷ others) got e = cc e
 op_kept geo lists verb.PutIfAbsent [] got e = cc e
 op_kept geo lists verb.PutIfAbsent (key ∷ []) got e = cc e
 op_kept geo lists verb.PutIfAbsent (key ∷ value ∷ []) got e =
-    let k = entry_kept geo key value (op.PutIfAbsent key value) got e in as_op geo (op.PutIfAbsent key value) got k.1 k.0
+    by_entry geo key value (op.PutIfAbsent key value) got (λ fits. fits) e
 op_kept geo lists verb.PutIfAbsent (key ∷ value ∷ other ∷ others) got e = cc e
 op_kept geo lists verb.Replace [] got e = cc e
 op_kept geo lists verb.Replace (key ∷ []) got e = cc e
 op_kept geo lists verb.Replace (key ∷ value ∷ []) got e =
-    let k = entry_kept geo key value (op.Replace key value) got e in as_op geo (op.Replace key value) got k.1 k.0
+    by_entry geo key value (op.Replace key value) got (λ fits. fits) e
 op_kept geo lists verb.Replace (key ∷ value ∷ other ∷ others) got e = cc e
 op_kept geo lists verb.ReplaceIf [] got e = cc e
 op_kept geo lists verb.ReplaceIf (key ∷ []) got e = cc e
 op_kept geo lists verb.ReplaceIf (key ∷ expected ∷ []) got e = cc e
 op_kept geo lists verb.ReplaceIf (key ∷ expected ∷ value ∷ []) got e =
     let asked : Op = op.ReplaceIf key expected value in
-    let some = passes (is_empty key) cause.Argument (unless (is_long_value expected) cause.TooLarge (written geo key value asked)) got e in
-    let short = passes (is_long_value expected) cause.TooLarge (written geo key value asked) got some.is in
-    let k = entry_kept geo key value asked got short.is in
-    as_op geo asked got k.1 (k.0, value_kept expected short.clear)
+    let k = expected_kept key expected (written geo key value asked) got e in
+    by_entry geo key value asked got (λ fits. (fits, k.0)) k.1
 op_kept geo lists verb.ReplaceIf (key ∷ expected ∷ value ∷ other ∷ others) got e = cc e
 op_kept geo lists verb.Remove [] got e = cc e
-op_kept geo lists verb.Remove (key ∷ []) got e = let k = key_kept key (op.Remove key) got e in as_op geo (op.Remove key) got k.1 k.0
+op_kept geo lists verb.Remove (key ∷ []) got e = by_key geo key (op.Remove key) got (λ is. is) e
 op_kept geo lists verb.Remove (key ∷ other ∷ others) got e = cc e
 op_kept geo lists verb.RemoveIf [] got e = cc e
 op_kept geo lists verb.RemoveIf (key ∷ []) got e = cc e
 op_kept geo lists verb.RemoveIf (key ∷ expected ∷ []) got e =
     let asked : Op = op.RemoveIf key expected in
-    let some = passes (is_empty key) cause.Argument (unless (is_long_value expected) cause.TooLarge (keyed key asked)) got e in
-    let short = passes (is_long_value expected) cause.TooLarge (keyed key asked) got some.is in
-    let k = key_kept key asked got short.is in
-    as_op geo asked got k.1 (k.0, value_kept expected short.clear)
+    let k = expected_kept key expected (keyed key asked) got e in
+    by_key geo key asked got (λ is. (is, k.0)) k.1
 op_kept geo lists verb.RemoveIf (key ∷ expected ∷ other ∷ others) got e = cc e
 op_kept geo lists verb.Count [] got e = cc e
 op_kept geo lists verb.Count (segment ∷ []) got e =

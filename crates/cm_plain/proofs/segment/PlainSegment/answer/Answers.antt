@@ -1,36 +1,34 @@
 -- What each operation's answer is by a step.
 use Rattle.std.proofs.Common.{◌<◌, ◌^◌, length, sym, arith}
-use Rattle.cm_plain.specs.States.{State}
 use Rattle.std.proofs.lemmas.Result.{IfOk-weaker}
 use Rattle.cm_plain.specs.declared.op.Op.TheVariants.{Sweep}
-use Rattle.cm_plain.specs.Segments.{Answered, Segment, Sweeps}
+use Rattle.cm_plain.specs.Segments.{Answered, Sweeps}
 use Rattle.cm_plain.proofs.Counted.{few_entries}
 use Rattle.cm_plain.proofs.Taking.{remove_answered, remove_if_answered}
+use Rattle.cm_plain.proofs.Seen.{seen_in}
 use Rattle.cm_plain.proofs.segment.PlainSegment.answer.Goals as goal
 
 pub overflow_cast-result : goal.overflow_cast-result
 overflow_cast-result c =
-    let state : State = record { chain = c.self.inside.chain.items; entries = c.self.inside.entries.items } in
-    let few : length c.as_slice-entries.result.now < 2 ^ 32 = rw c.as_slice-entries.ensures.value (few_entries c.self.inside.geo c.self.inside.segment state c.self.invariant.rests) in
+    let seen = seen_in c.self.inside in
+    let few : length c.as_slice-entries.result.now < 2 ^ 32 = rw c.as_slice-entries.ensures.value (few_entries seen.geo seen.segment seen.state c.self.invariant.rests) in
     omega (arith, few)
 
 pub listed-requires : goal.listed-requires
 listed-requires c =
-    let state : State = record { chain = c.self.inside.chain.items; entries = c.self.inside.entries.items } in
-    rw c.as_slice-entries.ensures.value (few_entries c.self.inside.geo c.self.inside.segment state c.self.invariant.rests)
+    let seen = seen_in c.self.inside in
+    rw c.as_slice-entries.ensures.value (few_entries seen.geo seen.segment seen.state c.self.invariant.rests)
 
 pub returns-in-None-missing-2-clause-ok : goal.returns-in-None-missing-2-clause-ok
 returns-in-None-missing-2-clause-ok c =
-    let state : State = record { chain = c.self.inside.chain.items; entries = c.self.inside.entries.items } in
-    let seen : Segment = record { geo = c.self.inside.geo; segment = c.self.inside.segment; number = c.self.inside.number; state = state } in
+    let seen = seen_in c.self.inside in
     let none = rw (c.as_slice-in-Remove.ensures, c.as_slice-entries.ensures.value) at c.in-None-missing-2.ensures in
     let takes = rw (c.as_slice-in-None-missing-2-2.ensures, sym c.self.view_is) at c.take.ensures in
     rw (c.in-Remove.is, c.removed_or_worn.ensures, sym c.self.view_is) (remove_answered seen c.take.new.self c.args.grant c.in-Remove.key c.take.result none takes)
 
 pub returns-in-None-unmet-2-clause-ok : goal.returns-in-None-unmet-2-clause-ok
 returns-in-None-unmet-2-clause-ok c =
-    let state : State = record { chain = c.self.inside.chain.items; entries = c.self.inside.entries.items } in
-    let seen : Segment = record { geo = c.self.inside.geo; segment = c.self.inside.segment; number = c.self.inside.number; state = state } in
+    let seen = seen_in c.self.inside in
     let none = rw (c.as_slice-in-RemoveIf.ensures, c.as_slice-in-RemoveIf-2.ensures, c.as_slice-entries.ensures.value) at c.in-None-unmet-2.ensures in
     let takes = rw (c.as_slice-in-None-unmet-2-2.ensures, sym c.self.view_is) at c.take-in-None-unmet-2.ensures in
     rw (c.in-RemoveIf.is, c.removed_or_worn-in-None-unmet-2.ensures, sym c.self.view_is)

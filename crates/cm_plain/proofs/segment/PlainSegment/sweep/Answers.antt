@@ -2,28 +2,26 @@
 use Rattle.std.proofs.Common.{◌≡◌, ◌∙◌, Bool, All, false, sym, ap, subst}
 use Rattle.std.specs.Prelude.{if◌then◌else◌}
 use Rattle.cm_plain.specs.declared.reply.Reply.TheVariants as reply
-use Rattle.cm_plain.specs.States.{State}
 use Rattle.cm_plain.specs.Steps.{has_prefix}
-use Rattle.cm_plain.specs.Segments.{IsLeastKey, Segment}
+use Rattle.cm_plain.specs.Segments.{IsLeastKey}
 use Rattle.cm_plain.proofs.Sweeping.{sweeps_none, sweeps_one}
+use Rattle.cm_plain.proofs.Seen.{seen_in}
 use Rattle.cm_plain.proofs.segment.PlainSegment.sweep.Goals as goal
 use Rattle.cm_plain.proofs.segment.PlainSegment.sweep.Goals.{then-take, else-take}
 
 pub returns-in_default-clause-ok : goal.returns-in_default-clause-ok
 returns-in_default-clause-ok c =
-    let state : State = record { chain = c.self.inside.chain.items; entries = c.self.inside.entries.items } in
-    let seen : Segment = record { geo = c.self.inside.geo; segment = c.self.inside.segment; number = c.self.inside.number; state = state } in
-    let none : All (λ entry. has_prefix c.args.prefix.now entry.key ≡ false) state.entries = rw c.as_slice.ensures.value at c.in_default.ensures in
+    let seen = seen_in c.self.inside in
+    let none : All (λ entry. has_prefix c.args.prefix.now entry.key ≡ false) seen.state.entries = rw c.as_slice.ensures.value at c.in_default.ensures in
     rw (sym c.self.view_is) (sweeps_none seen c.args.prefix.now none)
 
 pub returns-clause-ok : goal.returns-clause-ok
 returns-clause-ok c =
-    let state : State = record { chain = c.self.inside.chain.items; entries = c.self.inside.entries.items } in
-    let seen : Segment = record { geo = c.self.inside.geo; segment = c.self.inside.segment; number = c.self.inside.number; state = state } in
+    let seen = seen_in c.self.inside in
     let prefix = c.args.prefix.now in
     let key = c.in_ok-key.key in
-    let found : IsLeastKey prefix state.entries c.in-Some.key.now = rw c.as_slice.ensures.value at c.in-Some.ensures in
-    let least : IsLeastKey prefix state.entries key = subst (IsLeastKey prefix state.entries) (sym c.in_ok-key.ensures) found in
+    let found : IsLeastKey prefix seen.state.entries c.in-Some.key.now = rw c.as_slice.ensures.value at c.in-Some.ensures in
+    let least : IsLeastKey prefix seen.state.entries key = subst (IsLeastKey prefix seen.state.entries) (sym c.in_ok-key.ensures) found in
     let answer : c.if-take.result ≡ (if c.take.result then reply.Swept key else reply.Worn) = elim c.if-take.branch [
       | then-take w ↦ w.result-is ∙ sym (ap (λ (it : Bool). if it then reply.Swept key else reply.Worn) w.if-take.true)
       | else-take w ↦ w.result-is ∙ sym (ap (λ (it : Bool). if it then reply.Swept key else reply.Worn) w.if-take.false)

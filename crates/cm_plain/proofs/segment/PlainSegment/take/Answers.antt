@@ -1,21 +1,18 @@
 -- An entry that was taken away, and one that stays for want of a number.
 use Rattle.std.proofs.Common.{◌≡◌, ◌==◌, false, sym, arith}
 use Rattle.std.proofs.lemmas.Bool.Decides.{nat_tests}
-use Rattle.cm_plain.specs.States.{State}
 use Rattle.cm_plain.specs.Steps.{last_number}
-use Rattle.cm_plain.specs.Segments.{Segment}
 use Rattle.cm_plain.proofs.Taking.{is_segment_without, takes_without}
+use Rattle.cm_plain.proofs.Seen.{seen_in}
 use Rattle.cm_plain.proofs.segment.PlainSegment.take.Goals as goal
 
 pub invariant_of-self : goal.invariant_of-self
 invariant_of-self c =
-    let state : State = record { chain = c.self.inside.chain.items; entries = c.self.inside.entries.items } in
-    let seen : Segment = record { geo = c.self.inside.geo; segment = c.self.inside.segment; number = c.self.inside.number; state = state } in
+    let seen = seen_in c.self.inside in
     rw c.remove_key.ensures.items (is_segment_without seen c.args.key.now c.self.invariant c.if-self-eq-LAST_NUMBER.false)
 
 pub returns : goal.returns
 returns c =
-    let state : State = record { chain = c.self.inside.chain.items; entries = c.self.inside.entries.items } in
-    let seen : Segment = record { geo = c.self.inside.geo; segment = c.self.inside.segment; number = c.self.inside.number; state = state } in
+    let seen = seen_in c.self.inside in
     let counts : (seen.number == last_number) ≡ false = grind (arith, nat_tests, c.if-self-eq-LAST_NUMBER.false) in
     rw (sym c.self.view_is, c.remove_key.ensures.items) (takes_without seen c.args.key.now c.self.invariant counts)
