@@ -1,0 +1,35 @@
+-- Where a segment's words stand in the map.
+use Rattle.std.proofs.Common.{◌≡◌, ℕ, ◌+◌, ◌*◌, ◌<◌, ◌≤◌, ◌^◌, List, take, drop, slice_set, arith, refl}
+use Rattle.std.proofs.lemmas.Grind.{common_steps}
+use Rattle.cm_geo.specs.declared.geo.Geo.{Geo}
+use Rattle.cm_geo.specs.Addresses.{words_in_map, words_in_segment}
+use Rattle.cm_geo.proofs.Ranges.{map_limit}
+use Rattle.cm_words.specs.Maps.{MapWords, rest_of, words_before}
+
+row_inside : (s t n : ℕ) → s < t → s * n + n ≤ t * n
+row_inside s t n h = grind arith
+
+-- a segment's words are words of the map, which has at most 2^22
+pub segment_inside : (geo : Geo) (segment : ℕ) → segment < geo.segments → (words_before geo segment + words_in_segment geo ≤ words_in_map geo) × (words_in_map geo ≤ 2 ^ 22)
+segment_inside geo segment h = (row_inside segment geo.segments (words_in_segment geo) h, map_limit geo)
+
+-- and so is each of them
+pub place_inside : (geo : Geo) (segment start at : ℕ) → segment < geo.segments → start ≡ words_before geo segment → at < words_in_segment geo → (start + at < words_in_map geo) × (words_in_map geo ≤ 2 ^ 22)
+place_inside geo segment start at h e inside = let s = segment_inside geo segment h in (omega (arith, s.0, e), s.1)
+
+-- a segment has a change number
+pub number_inside : (geo : Geo) → 1 < words_in_segment geo
+unfolding words_in_segment
+number_inside geo = omega arith
+
+take_same : (words : List ℕ) (at word n : ℕ) → n ≤ at → take n (slice_set words at word) ≡ take n words
+take_same words at word n high = grind (arith, common_steps)
+
+drop_same : (words : List ℕ) (at word n : ℕ) → at < n → drop n (slice_set words at word) ≡ drop n words
+drop_same words at word n low = grind (arith, common_steps)
+
+-- a store in a segment leaves the rest of the map
+pub rest_stored : (map : MapWords) (segment start at word : ℕ) → start ≡ words_before map.geo segment → at < words_in_segment map.geo
+    → rest_of (record { geo = map.geo; words = slice_set map.words (start + at) word }) segment ≡ rest_of map segment
+rest_stored map segment start at word e inside =
+    rw (take_same map.words (start + at) word (words_before map.geo segment) (omega (arith, e)), drop_same map.words (start + at) word (words_before map.geo segment + words_in_segment map.geo) (omega (arith, e, inside))) refl

@@ -1,0 +1,32 @@
+use Rattle.std.proofs.Common.{◌≡◌, false, true, refl}
+use Rattle.cm_words.specs.Fixed.{fixed_seen}
+use Rattle.cm_words.proofs.Fits.{as_before, on_err, reads_load, reads_same, tells_number}
+use Rattle.cm_words.proofs.Places.{number_inside}
+use Rattle.cm_words.proofs.Plainly.{notes_loaded}
+use Rattle.cm_words.proofs.fixed.FixedMemMem.number.Goals as goal
+
+pub returns-in_err-ask-clause-reads : goal.returns-in_err-ask-clause-reads
+returns-in_err-ask-clause-reads c = reads_same _ _ (record { setting = refl; plan = refl }) (λ k. refl)
+
+pub returns-in_err-ask-clause-dead : goal.returns-in_err-ask-clause-dead
+returns-in_err-ask-clause-dead c =
+    on_err c.from_residual.result (as_before _ _ (record { setting = refl; plan = refl }) (λ k. refl) c.in_err-ask.ensures.dead_events c.in_err-ask.ensures.dead_stores)
+
+pub place-place-requires : goal.place-place-requires
+place-place-requires c = number_inside c.args.self.now.words.now.geo
+
+pub returns-clause-reads : goal.returns-clause-reads
+returns-clause-reads c =
+    let m = c.args.self.now in
+    let inside = number_inside m.words.now.geo in
+    reads_load _ _ 1 _ inside (record { setting = refl; plan = refl }) (notes_loaded _ _ m.words.now.geo m.start 1 m.words.now.words m.words.now.words inside (λ k. refl) (λ k. refl))
+
+not_guarded : false ≡ true → ⊥
+not_guarded e = cc e
+
+pub returns-clause-number : goal.returns-clause-number
+returns-clause-number c =
+    let m = c.args.self.now in
+    let inside = number_inside m.words.now.geo in
+    rw (c.get.ensures, c.place-place.ensures.value) (tells_number (fixed_seen m) _ _ inside
+    (notes_loaded _ _ m.words.now.geo m.start 1 m.words.now.words m.words.now.words inside (λ k. refl) (λ k. refl)) (λ guarded. absurd (not_guarded guarded)))

@@ -1,0 +1,55 @@
+-- What a fuse tells, and how it answers for an event (own).
+use Rattle.std.specs.Prelude.{ℕ, ◌≡◌, ◌+◌, ◌<◌, Bool, IsTrue, Option, Some, None}
+use Rattle.cm_words.specs.declared.fuse.EventKind.{EventKind}
+use Rattle.cm_words.specs.declared.fuse.EventKind.TheVariants.{Load, Store, Exchange}
+use Rattle.cm_words.specs.declared.fuse.Admit.{Admit}
+use Rattle.cm_words.specs.declared.fuse.Admit.TheVariants.{Go, Die}
+
+-- how many stores, or how many events of all kinds, a fuse still admits
+pub data Told : Type 0 where
+  stores : ℕ → Told
+  events : ℕ → Told
+
+-- whether a fuse can die, how often it died, and the number that it tells, if any
+pub record FuseSeen : Type 0 where
+  pub can_die : Bool
+  pub deaths : ℕ
+  pub told : Option Told
+
+-- an event of this kind counts for the number
+abbrev pub CountsFor : EventKind → Told → Type 0
+CountsFor kind (events left) = Unit {0}
+CountsFor Store (stores left) = Unit {0}
+CountsFor Load (stores left) = ⊥
+CountsFor Exchange (stores left) = ⊥
+
+-- how many of one event of this kind are stores
+abbrev pub stores_in : EventKind → ℕ
+stores_in Store = 1
+stores_in Load = 0
+stores_in Exchange = 0
+
+-- the number before and after events were admitted that raised the counts of events and of stores from these to those
+abbrev pub Falls : ℕ → ℕ → ℕ → ℕ → Option Told → Option Told → Type 0
+Falls e s later_e later_s None now = now ≡ None
+Falls e s later_e later_s (Some (stores before)) now = (left : ℕ) × (left + later_s ≡ before + s) × (now ≡ Some (stores left))
+Falls e s later_e later_s (Some (events before)) now = (left : ℕ) × (left + later_e ≡ before + e) × (now ≡ Some (events left))
+
+-- the number before these counts rose so, where the next event died: it was used up. None is told after a death
+abbrev pub WasUsedUp : ℕ → ℕ → ℕ → ℕ → Option Told → Option Told → Type 0
+WasUsedUp e s later_e later_s None now = now ≡ None
+WasUsedUp e s later_e later_s (Some (stores before)) now = (later_s ≡ before + s) × (now ≡ None)
+WasUsedUp e s later_e later_s (Some (events before)) now = (later_e ≡ before + e) × (now ≡ None)
+
+-- the number before an event of this kind that was admitted, or that died, and after it
+abbrev pub TellsOn : EventKind → Admit → Option Told → Option Told → Type 0
+TellsOn kind Go before now = Falls 0 0 1 (stores_in kind) before now
+TellsOn kind Die None now = now ≡ None
+TellsOn kind Die (Some told) now = CountsFor kind told × WasUsedUp 0 0 0 0 (Some told) now
+
+-- a fuse was asked for an event of this kind: it dies exactly where the count of deaths rises, and only where it can die
+pub record Admits (kind : EventKind) (before now : FuseSeen) (answer : Admit) : Type 0 where
+  pub never_begins : IsTrue now.can_die → IsTrue before.can_die
+  pub go : answer ≡ Go → now.deaths ≡ before.deaths
+  pub die : answer ≡ Die → (before.deaths < now.deaths) × IsTrue before.can_die
+  pub told : TellsOn kind answer before.told now.told

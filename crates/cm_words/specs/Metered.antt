@@ -1,0 +1,7 @@
+-- What a meter of the program tells (own).
+use Rattle.cm_words.specs.declared.meter.Meter.{Meter}
+use Rattle.cm_words.specs.Fuses.{FuseSeen}
+use Rattle.cm_words.specs.Meters.{MeterSeen}
+
+abbrev pub metered : {F : Type 0} → (F → FuseSeen) → Meter F → MeterSeen
+metered fused meter = record { fuse = fused meter.fuse; events = meter.events; stores = meter.stores }

@@ -1,0 +1,49 @@
+-- A fuse with counts of what it admitted (own).
+use Rattle.std.specs.Prelude.{ℕ, ◌≡◌, ◌+◌, ◌<◌, ◌≤◌, IsTrue, Option, Some, None, Result, OnOk, OnErr}
+use Rattle.cm_words.specs.declared.fuse.EventKind.{EventKind}
+use Rattle.cm_words.specs.Fuses.{CountsFor, Falls, FuseSeen, Told, WasUsedUp, stores_in}
+
+-- a fuse, and how many events, and how many stores among them, were counted
+pub record MeterSeen : Type 0 where
+  pub fuse : FuseSeen
+  pub events : ℕ
+  pub stores : ℕ
+
+-- a fuse of which no event was counted yet
+abbrev pub unused : FuseSeen → MeterSeen
+unused fuse = record { fuse = fuse; events = 0; stores = 0 }
+
+-- no event died: the number that the fuse tells fell by as many as were counted
+pub record Lives (old now : MeterSeen) : Type 0 where
+  pub events : old.events ≤ now.events
+  pub stores : old.stores ≤ now.stores
+  pub few : now.stores + old.events ≤ now.events + old.stores
+  pub never_begins : IsTrue now.fuse.can_die → IsTrue old.fuse.can_die
+  pub deaths : now.fuse.deaths ≡ old.fuse.deaths
+  pub told : Falls old.events old.stores now.events now.stores old.fuse.told now.fuse.told
+
+-- an event died behind those that were counted: the number that the fuse told was used up by these
+pub record Dies (old now : MeterSeen) : Type 0 where
+  pub events : old.events ≤ now.events
+  pub stores : old.stores ≤ now.stores
+  pub few : now.stores + old.events ≤ now.events + old.stores
+  pub never_begins : IsTrue now.fuse.can_die → IsTrue old.fuse.can_die
+  pub could : IsTrue old.fuse.can_die
+  pub deaths : old.fuse.deaths < now.fuse.deaths
+  pub told : WasUsedUp old.events old.stores now.events now.stores old.fuse.told now.fuse.told
+
+-- a call answers Dead exactly where one of its events died
+pub record Goes {T E : Type 0} (old now : MeterSeen) (result : Result T E) : Type 0 where
+  pub lives : OnOk result (Lives old now)
+  pub dies : OnErr result (Dies old now)
+
+-- an event of this kind counts for the number that is told, if one is
+abbrev pub CountsForTold : EventKind → Option Told → Type 0
+CountsForTold kind None = Unit {0}
+CountsForTold kind (Some told) = CountsFor kind told
+
+-- a call makes one event of this kind, or dies in its place
+pub record MakesEvent {T E : Type 0} (kind : EventKind) (old now : MeterSeen) (result : Result T E) : Type 0 where
+  pub events : OnOk result (now.events ≡ old.events + 1)
+  pub stores : OnOk result (now.stores ≡ old.stores + stores_in kind)
+  pub counts : OnErr result (CountsForTold kind old.fuse.told)

@@ -1,0 +1,105 @@
+//! The memory of one segment, on which every layer works.
+
+ghost use Rattle.std.specs.Prelude.{◌≡◌, ◌≢◌, ◌<◌, IfOk, OnOk, OnErr, IsSome, IsTrue, None, Some, ℕ, [], ◌∷◌};
+ghost use Rattle.cm_geo.specs.Addresses.{words_in_segment};
+ghost use Rattle.cm_plain.specs.Changes.{Change};
+ghost use Rattle.cm_plain.specs.Plans.{IsShort, told_by};
+ghost use Rattle.cm_words.specs.declared.standing.Standing.TheVariants.{Closed, Writable};
+ghost use Rattle.cm_words.specs.declared.fuse.EventKind.TheVariants.{Load, Store};
+ghost use Rattle.cm_words.specs.Memory.{HasEvenNumber, IsDone, IsPlanHere, MayStore, MemSeen};
+ghost use Rattle.cm_words.specs.Meters.{Goes, MakesEvent};
+ghost use Rattle.cm_words.specs.Effects.{Begins, Finishes, IsAsBefore, Reads, Tells, TellsNumber, Writes};
+
+use crate::fuse::Dead;
+use cm_plain::Plan;
+
+/// The words of one segment, one event at a time.
+///
+/// A memory tells its geometry and its segment, how it may be used, the plan under way, notes of the
+/// words that it loaded or stored, its fuse, and how many events and stores were counted. Contracts
+/// speak of each list of words that fits the notes. Places are counted from the segment's first word.
+/// Every call answers `Dead` exactly where its fuse died in place of an event, and then this event
+/// wasn't made.
+pub trait Mem {
+    ghost seen: { Self → MemSeen };
+
+    // All that no call over a memory changes. It is a relation, since a memory that is shared may learn
+    // more of what others did. `finish` alone changes it: it adds its change with its number, and the laws
+    // at the end join that with what calls before and behind it leave.
+    ghost same_rest: { Self → Self → Type 0 };
+
+    ghost rest_with: { Self → Self → Change → ℕ → Type 0 };
+
+    /// The word at a place.
+    fn load(&mut self, at: u32) -> Result<u64, Dead>
+        requires open { (seen self.old).setting.standing ≢ Closed }
+        requires in_range { at < words_in_segment (seen self.old).setting.geo }
+        ensures rest { same_rest self.old self.new }
+        ensures goes { Goes (seen self.old).meter (seen self.new).meter result }
+        ensures event { MakesEvent Load (seen self.old).meter (seen self.new).meter result }
+        ensures reads { Reads (seen self.old) (seen self.new) }
+        ensures word { IfOk result (Tells (seen self.new) at) }
+        ensures dead { OnErr result (IsAsBefore (seen self.old) (seen self.new)) };
+
+    /// Sets the word at a place behind the lock word and the change number; all others stay.
+    ///
+    /// A guarded memory is stored in under a plan alone, and each store has to leave the words torn for
+    /// this plan, so that recovery finds the state before or after it.
+    fn store(&mut self, at: u32, word: u64) -> Result<(), Dead>
+        requires writable { (seen self.old).setting.standing ≡ Writable }
+        requires in_range { at < words_in_segment (seen self.old).setting.geo }
+        requires inner { 1 < at }
+        requires allowed { MayStore (seen self.old) at word }
+        ensures rest { same_rest self.old self.new }
+        ensures goes { Goes (seen self.old).meter (seen self.new).meter result }
+        ensures event { MakesEvent Store (seen self.old).meter (seen self.new).meter result }
+        ensures writes { OnOk result (Writes (seen self.old) (seen self.new) ((at, word) ∷ [])) }
+        ensures word { OnOk result (Tells (seen self.new) at word) }
+        ensures dead { OnErr result (IsAsBefore (seen self.old) (seen self.new)) };
+
+    /// Half of the change number, by one load: how many changes the segment took.
+    fn number(&mut self) -> Result<u64, Dead>
+        requires open { (seen self.old).setting.standing ≢ Closed }
+        requires idle { (seen self.old).plan ≡ None }
+        ensures rest { same_rest self.old self.new }
+        ensures goes { Goes (seen self.old).meter (seen self.new).meter result }
+        ensures event { MakesEvent Load (seen self.old).meter (seen self.new).meter result }
+        ensures reads { Reads (seen self.old) (seen self.new) }
+        ensures number { IfOk result (TellsNumber (seen self.new)) }
+        ensures dead { OnErr result (IsAsBefore (seen self.old) (seen self.new)) };
+
+    /// Begins a change: stores the next change number, which is odd, and the plan is under way.
+    fn begin(&mut self, plan: &Plan<'_>) -> Result<(), Dead>
+        requires writable { (seen self.old).setting.standing ≡ Writable }
+        requires idle { (seen self.old).plan ≡ None }
+        requires short { IsShort (told_by plan.now) }
+        requires number { HasEvenNumber (seen self.old) }
+        requires planned { IsPlanHere (seen self.old) (told_by plan.now) }
+        ensures rest { same_rest self.old self.new }
+        ensures goes { Goes (seen self.old).meter (seen self.new).meter result }
+        ensures event { MakesEvent Store (seen self.old).meter (seen self.new).meter result }
+        ensures begins { OnOk result (Begins (seen self.old) (seen self.new) (told_by plan.now)) }
+        ensures dead { OnErr result (IsAsBefore (seen self.old) (seen self.new)) };
+
+    /// Ends the change: stores the next change number, which is even, and answers its half.
+    fn finish(&mut self) -> Result<u64, Dead>
+        requires writable { (seen self.old).setting.standing ≡ Writable }
+        requires under_way { IsSome (seen self.old).plan }
+        requires done { (change : Change) → (seen self.old).plan ≡ Some change → IsDone (seen self.old) change }
+        ensures rest { IfOk result (λ number. (change : Change) → (seen self.old).plan ≡ Some change → rest_with self.old self.new change number) }
+        ensures goes { Goes (seen self.old).meter (seen self.new).meter result }
+        ensures event { MakesEvent Store (seen self.old).meter (seen self.new).meter result }
+        ensures finishes { IfOk result (Finishes (seen self.old) (seen self.new)) }
+        ensures dead { OnErr result (IsAsBefore (seen self.old) (seen self.new)) }
+        ensures dead_rest { OnErr result (same_rest self.old self.new) };
+
+    ghost lock_unnoted: { (m : Self) → IsTrue (seen m).setting.shared → (seen m).noted 0 ≡ None };
+
+    ghost rest_stays: { (m : Self) → same_rest m m };
+
+    ghost rest_goes_on: { (a b c : Self) → same_rest a b → same_rest b c → same_rest a c };
+
+    ghost rest_goes_with: { (a b c : Self) (change : Change) (number : ℕ) → same_rest a b → rest_with b c change number → rest_with a c change number };
+
+    ghost rest_goes_behind: { (a b c : Self) (change : Change) (number : ℕ) → rest_with a b change number → same_rest b c → rest_with a c change number };
+}
