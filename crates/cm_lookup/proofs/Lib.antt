@@ -1,0 +1,20 @@
+-- The lemmas on rings of slots and on the slots of a tier.
+pub mod Round
+pub mod Taken
+pub mod Holes
+pub mod Shifting
+pub mod Members
+pub mod Ending
+pub mod OneShift
+pub mod Words
+pub mod Tiers
+pub mod Removing
+pub mod Masks
+pub mod Finding
+pub mod Putting
+pub mod Once
+pub mod Lost
+pub mod Midway
+pub mod Passing
+pub mod Moving
+pub mod After

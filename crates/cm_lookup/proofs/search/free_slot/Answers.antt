@@ -1,0 +1,30 @@
+use Rattle.std.proofs.Common.{arith, ◌*◌}
+use Rattle.cm_words.proofs.Fits.{reads_on}
+use Rattle.cm_lookup.proofs.Passing.{at_probe, first_is_empty, loaded_more, none_is_empty, some_more}
+use Rattle.cm_lookup.proofs.search.free_slot.Goals as goal
+
+pub returns-then-word-eq0-clause-first : goal.returns-then-word-eq0-clause-first
+returns-then-word-eq0-clause-first g c =
+    first_is_empty (g.M.Mem.seen c.loop-steps.mem) (g.M.Mem.seen c.load.new.self) c.args.geo.now c.args.place c.args.fingerprint c.loop-steps.steps _ c.slot_at.result c.in_ok-word.word
+    c.loop-steps.invariant.passed c.in_ok-word.ensures.reads
+    (at_probe c.args.geo.now c.home_of-home.result _ c.args.fingerprint c.loop-steps.steps c.loop-steps.invariant.home_is c.loop-steps.invariant.slots_are)
+    c.slot_at.ensures.value c.in_ok-word.ensures.word c.if-word-eq0.true (omega arith)
+
+pub returns-then-word-eq0-clause-reads : goal.returns-then-word-eq0-clause-reads
+returns-then-word-eq0-clause-reads g c = reads_on _ _ _ c.loop-steps.invariant.loaded.reads c.in_ok-word.ensures.reads
+
+pub loop-steps-preserved : goal.loop-steps-preserved
+loop-steps-preserved g c = record {
+  rest = g.met.M.Mem.rest_goes_on _ _ _ c.loop-steps.invariant.rest c.in_ok-word.ensures.rest;
+  slots_are = c.loop-steps.invariant.slots_are;
+  home_is = c.loop-steps.invariant.home_is;
+  loaded = loaded_more _ (g.M.Mem.seen c.loop-steps.mem) _ c.loop-steps.invariant.loaded c.in_ok-word.ensures.reads c.in_ok-word.ensures.goes.lives;
+  passed = some_more (g.M.Mem.seen c.loop-steps.mem) (g.M.Mem.seen c.load.new.self) c.args.geo.now c.args.place c.args.fingerprint c.loop-steps.steps c.slot_at.result c.in_ok-word.word
+      c.loop-steps.invariant.passed c.in_ok-word.ensures.reads
+      (rw (at_probe c.args.geo.now c.home_of-home.result (2 * c.chunks-slots.result) c.args.fingerprint c.loop-steps.steps c.loop-steps.invariant.home_is c.loop-steps.invariant.slots_are) at c.slot_at.ensures.value)
+      c.in_ok-word.ensures.word c.if-word-eq0.false;
+}
+
+pub returns-clause-first : goal.returns-clause-first
+returns-clause-first g c =
+    none_is_empty (g.M.Mem.seen c.loop-steps.mem) c.args.geo.now c.args.place c.args.fingerprint c.loop-steps.steps _ c.loop-steps.invariant.passed (omega arith)

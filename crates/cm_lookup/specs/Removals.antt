@@ -1,0 +1,54 @@
+-- What the removal of a slot does over a memory (own).
+use Rattle.std.specs.Prelude.{ℕ, ◌≡◌, ◌≢◌, List, slice_set, None}
+use Rattle.cm_geo.specs.declared.geo.Geo.{Geo}
+use Rattle.cm_geo.specs.Addresses.{slot_at}
+use Rattle.cm_plain.specs.Slots.{slot_in}
+use Rattle.cm_words.specs.Memory.{FitsNotes, IsAllowed, MemSeen, origin}
+use Rattle.cm_words.specs.Effects.{Keeps, StaysNoted, after_stores}
+use Rattle.cm_lookup.specs.Shifts.{IsShift, NextStore, Shift}
+use Rattle.cm_lookup.specs.Tiers.{HasEmptySlot, KeepsSlotLaw, LostSlot, at_slots, ring_of, slot_words}
+
+-- the slot isn't empty, another one is, and the tier keeps the slot law
+pub record CanLose (geo : Geo) (words : List ℕ) (place slot : ℕ) : Type 0 where
+  pub removed : slot_in geo words place slot ≢ None
+  pub empty : HasEmptySlot geo words place
+  pub law : KeepsSlotLaw geo words place
+
+-- each list of words that the stores of the shift lead to is allowed
+abbrev pub MayShift : MemSeen → Geo → ℕ → ℕ → Type 0
+MayShift m geo place slot =
+    (words : List ℕ) → FitsNotes m words → (made : List (ℕ × ℕ)) (at word : ℕ) → NextStore (ring_of geo) (slot_words geo words place) slot made at word
+    → IsAllowed m.setting m.plan (origin m words) (after_stores words (at_slots geo place made)) (slice_set (after_stores words (at_slots geo place made)) (slot_at geo place at) word)
+
+-- these words are what stores of the shift lead to from a list that fitted before
+pub record CameByPart (old now : MemSeen) (geo : Geo) (place slot hole steps : ℕ) (words before : List ℕ) : Type 0 where
+  pub fits : FitsNotes old before
+  pub origin : origin now words ≡ origin old before
+  pub made : List (ℕ × ℕ)
+  pub leads : after_stores before (at_slots geo place made) ≡ words
+  pub shift : Shift (ring_of geo) (slot_words geo before place) slot hole steps made
+
+-- the shift has come so far: the hole is so many steps behind the removed slot, and the slots of so many steps were looked at
+pub record Shifted (old now : MemSeen) (geo : Geo) (place slot hole steps : ℕ) : Type 0 where
+  pub kept : Keeps old now
+  pub noted : StaysNoted old now
+  pub came : (words : List ℕ) → FitsNotes now words → (before : List ℕ) × CameByPart old now geo place slot hole steps words before
+
+-- some of the stores of the shift were made
+abbrev pub ShiftedPart : MemSeen → MemSeen → Geo → ℕ → ℕ → Type 0
+ShiftedPart old now geo place slot = (hole : ℕ) × (steps : ℕ) × Shifted old now geo place slot hole steps
+
+-- these words are what the whole shift leads to from a list that fitted before, if that was one that could lose the slot
+pub record CameByShift (old now : MemSeen) (geo : Geo) (place slot : ℕ) (words before : List ℕ) : Type 0 where
+  pub fits : FitsNotes old before
+  pub origin : origin now words ≡ origin old before
+  pub stores : List (ℕ × ℕ)
+  pub leads : after_stores before (at_slots geo place stores) ≡ words
+  pub whole : CanLose geo before place slot → IsShift (ring_of geo) (slot_words geo before place) slot stores
+  pub lost : CanLose geo before place slot → LostSlot geo before words place slot
+
+-- all stores of the shift were made
+pub record Removes (old now : MemSeen) (geo : Geo) (place slot : ℕ) : Type 0 where
+  pub kept : Keeps old now
+  pub noted : StaysNoted old now
+  pub came : (words : List ℕ) → FitsNotes now words → (before : List ℕ) × CameByShift old now geo place slot words before
