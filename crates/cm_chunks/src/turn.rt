@@ -1,0 +1,128 @@
+//! Setting and clearing the bits of a run of chunks.
+
+ghost use Rattle.std.specs.Prelude.{◌≡◌, ◌+◌, ◌-◌, ◌/◌, ◌^◌, ◌<◌, ◌≤◌, OnOk, OnErr, length};
+ghost use Rattle.cm_words.specs.Memory.{MemSeen};
+ghost use Rattle.cm_words.specs.Meters.{Goes};
+ghost use Rattle.cm_words.specs.Effects.{Reads};
+ghost use Rattle.cm_words.specs.Stores.{MayStoreEach, WritesEach, WritesFrontEach};
+ghost use Rattle.cm_words.specs.declared.standing.Standing.TheVariants.{Writable};
+ghost use Rattle.cm_chunks.specs.Turns.{bits_in, stores_for, stores_to_clear, stores_to_set, touched, turn_at, turned};
+ghost use Rattle.cm_chunks.specs.Stores.{Rewrites};
+ghost use Rattle.cm_chunks.specs.Runs.{Clears, Sets};
+
+use crate::bits::bits_between;
+use cm_geo::Geo;
+use cm_plain::Run;
+use cm_words::{Dead, Mem};
+
+/// What is done to the bits of a run.
+#[derive(Clone, Copy)]
+pub(crate) enum Turn {
+    Set,
+    Clear,
+}
+
+impl Turn {
+    /// A word with these bits set or cleared.
+    fn turned(self, word: u64, bits: u64) -> u64
+        ensures { result ≡ turned self word bits }
+    {
+        match self {
+            Turn::Set => word | bits,
+            Turn::Clear => word & !bits,
+        }
+    }
+}
+
+/// Sets or clears the bits of a run in one bit word, by one load and one store.
+#[tactic(auto, using(crate::proofs::Passing::bits_inner))]
+fn turn_word<M: Mem>(
+    mem: &mut M,
+    geo: &Geo,
+    run: Run,
+    number: u32,
+    bits: u64,
+    turn: Turn,
+) -> Result<(), Dead>
+    requires writable { (M.seen mem.old).setting.standing ≡ Writable }
+    requires geo { (M.seen mem.old).setting.geo ≡ geo.now }
+    requires place { run.place < geo.now.tiers }
+    requires number { number < geo.now.chunks / 64 }
+    requires bits { bits ≡ bits_in run number }
+    requires allowed { MayStoreEach (M.seen mem.old) (turn_at turn geo.now run number) }
+    ensures rest { M.same_rest mem.old mem.new }
+    ensures goes { Goes (M.seen mem.old).meter (M.seen mem.new).meter result }
+    ensures count { OnOk result (Rewrites (M.seen mem.old).meter (M.seen mem.new).meter 1) }
+    ensures stored { OnOk result (WritesEach (M.seen mem.old) (M.seen mem.new) (turn_at turn geo.now run number)) }
+    ensures dead { OnErr result (Reads (M.seen mem.old) (M.seen mem.new)) }
+{
+    let at = geo.bits_at(run.place, number);
+    let word = mem.load(at)?;
+    mem.store(at, turn.turned(word, bits))?;
+    Ok(())
+}
+
+/// Sets or clears the bits of a run, the lower bit word first.
+fn turn_run<M: Mem>(mem: &mut M, geo: &Geo, run: Run, turn: Turn) -> Result<(), Dead>
+    requires writable { (M.seen mem.old).setting.standing ≡ Writable }
+    requires geo { (M.seen mem.old).setting.geo ≡ geo.now }
+    requires place { run.place < geo.now.tiers }
+    requires some { 1 ≤ run.chunks }
+    requires few { run.chunks ≤ 64 }
+    requires inside { run.chunk + run.chunks ≤ geo.now.chunks }
+    requires allowed { MayStoreEach (M.seen mem.old) (stores_for turn geo.now run) }
+    ensures rest { M.same_rest mem.old mem.new }
+    ensures goes { Goes (M.seen mem.old).meter (M.seen mem.new).meter result }
+    ensures count { OnOk result (Rewrites (M.seen mem.old).meter (M.seen mem.new).meter (length (touched run))) }
+    ensures stored { OnOk result (WritesEach (M.seen mem.old) (M.seen mem.new) (stores_for turn geo.now run)) }
+    ensures dead { OnErr result (WritesFrontEach (M.seen mem.old) (M.seen mem.new) (stores_for turn geo.now run)) }
+{
+    let number = run.chunk / 64;
+    let from = run.chunk % 64;
+    let end = from + run.chunks;
+    if end <= 64 {
+        turn_word(mem, geo, run, number, bits_between(from, end), turn)?;
+        return Ok(());
+    }
+    turn_word(mem, geo, run, number, bits_between(from, 64), turn)?;
+    turn_word(mem, geo, run, number + 1, bits_between(0, end - 64), turn)?;
+    Ok(())
+}
+
+/// Sets the bits of a run of 1 to 64 chunks; all other bits stay.
+pub fn set<M: Mem>(mem: &mut M, geo: &Geo, run: Run) -> Result<(), Dead>
+    requires writable { (M.seen mem.old).setting.standing ≡ Writable }
+    requires geo { (M.seen mem.old).setting.geo ≡ geo.now }
+    requires place { run.place < geo.now.tiers }
+    requires some { 1 ≤ run.chunks }
+    requires few { run.chunks ≤ 64 }
+    requires inside { run.chunk + run.chunks ≤ geo.now.chunks }
+    requires allowed { MayStoreEach (M.seen mem.old) (stores_to_set geo.now run) }
+    ensures rest { M.same_rest mem.old mem.new }
+    ensures goes { Goes (M.seen mem.old).meter (M.seen mem.new).meter result }
+    ensures count { OnOk result (Rewrites (M.seen mem.old).meter (M.seen mem.new).meter (length (touched run))) }
+    ensures set { OnOk result (Sets (M.seen mem.old) (M.seen mem.new) geo.now run) }
+    ensures dead { OnErr result (WritesFrontEach (M.seen mem.old) (M.seen mem.new) (stores_to_set geo.now run)) }
+{
+    turn_run(mem, geo, run, Turn::Set)?;
+    Ok(())
+}
+
+/// Clears the bits of a run of 1 to 64 chunks; all other bits stay.
+pub fn clear<M: Mem>(mem: &mut M, geo: &Geo, run: Run) -> Result<(), Dead>
+    requires writable { (M.seen mem.old).setting.standing ≡ Writable }
+    requires geo { (M.seen mem.old).setting.geo ≡ geo.now }
+    requires place { run.place < geo.now.tiers }
+    requires some { 1 ≤ run.chunks }
+    requires few { run.chunks ≤ 64 }
+    requires inside { run.chunk + run.chunks ≤ geo.now.chunks }
+    requires allowed { MayStoreEach (M.seen mem.old) (stores_to_clear geo.now run) }
+    ensures rest { M.same_rest mem.old mem.new }
+    ensures goes { Goes (M.seen mem.old).meter (M.seen mem.new).meter result }
+    ensures count { OnOk result (Rewrites (M.seen mem.old).meter (M.seen mem.new).meter (length (touched run))) }
+    ensures cleared { OnOk result (Clears (M.seen mem.old) (M.seen mem.new) geo.now run) }
+    ensures dead { OnErr result (WritesFrontEach (M.seen mem.old) (M.seen mem.new) (stores_to_clear geo.now run)) }
+{
+    turn_run(mem, geo, run, Turn::Clear)?;
+    Ok(())
+}

@@ -1,0 +1,10 @@
+//! The tiers of a segment: the chain of their links.
+#![tactic(auto)]
+
+mod links;
+mod places;
+#[cfg(test)]
+mod tests;
+
+pub use links::{chain, link, next};
+pub use places::{Chain, lowest_unlinked};
