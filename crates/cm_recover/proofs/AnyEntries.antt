@@ -1,0 +1,213 @@
+-- Whatever stands in the words of a segment, what is kept of it is a state.
+use Rattle.std.proofs.Common.{◌≡◌, ◌≢◌, ℕ, ◌+◌, ◌-◌, ◌*◌, ◌<◌, ◌≤◌, ◌==◌, ◌&&◌, Bool, true, false, List, [], ◌∷◌, length, get_or, nat_le, take, drop, Option, Some, None, refl, ap, sym, subst, ◌∙◌, arith, inl, inr}
+use Rattle.std.specs.List.{AllByRecursion, list_any}
+use Rattle.std.specs.Str.{bytes_eq}
+use Rattle.std.proofs.lemmas.Bool.{cases_Bool}
+use Rattle.std.proofs.lemmas.Bool.Decides.{eqb_tells, nat_tests}
+use Rattle.std.proofs.lemmas.List.{length-drop, length-take-le}
+use Rattle.std.proofs.lemmas.List.Elements.{All-from_recursion, recursion_from_All}
+use Rattle.std.proofs.lemmas.Slice.Eq.{bytes_eq-Decides}
+use Rattle.cm_geo.specs.declared.geo.Geo.{Geo}
+use Rattle.cm_geo.specs.Addresses.{chunk_at, words_in_segment}
+use Rattle.cm_geo.specs.Hash.{fingerprint_in, hash, segment_of_key}
+use Rattle.cm_geo.specs.Need.{Fits, need, parts_for}
+use Rattle.cm_geo.proofs.InOrder.{run_in_range}
+use Rattle.cm_geo.proofs.Ranges.{chunk_words_range}
+use Rattle.cm_plain.specs.declared.placed.Placed.{Placed}
+use Rattle.cm_plain.specs.States.{HasRun, IsPlaced, IsState, chunks_of, pair_of}
+use Rattle.cm_plain.specs.Rooms.{is_free, meets}
+use Rattle.cm_plain.specs.Changes.{entry_at}
+use Rattle.cm_plain.specs.Readings.{Reading, Stands, entry, key_bytes, key_len, reading_at, value_bytes, value_len, wrong_checksum, wrong_filling, wrong_lengths}
+use Rattle.cm_plain.proofs.Apart.{Rising, fresh_apart, rising_with}
+use Rattle.cm_plain.proofs.Each.{Pairs, all_from_pairs, each_fails, each_weaker}
+use Rattle.cm_plain.proofs.Filling.{IsRead, bytes_len, is_read}
+use Rattle.cm_plain.proofs.Placing.{each_with, keys_with}
+use Rattle.cm_plain.proofs.States.{Differs}
+use Rattle.cm_plain.proofs.Resting.{words_within}
+use Rattle.cm_plain.proofs.Telling.{In, in_has, in_to}
+use Rattle.cm_recover.specs.declared.cause.Cause.TheVariants as cause
+use Rattle.cm_recover.specs.Occupied.{Occupied, occupied}
+use Rattle.cm_recover.specs.Allowed.{allowed}
+use Rattle.cm_recover.specs.Verdicts.{Verdict, is_dropped, is_kept, verdict, verdict_beside, verdict_in_tier, verdict_on_entry, verdict_on_reading}
+use Rattle.cm_recover.specs.Kept.{Kept, kept_in, kept_of, kept_state, kept_with}
+use Rattle.cm_recover.proofs.AnyChain.{allowed_chain}
+use Rattle.cm_recover.proofs.Between.{value_size}
+use Rattle.cm_recover.proofs.Keeping.{some_any}
+
+-- an entry that is kept beside others
+record IsBeside (geo : Geo) (kept : List Placed) (placed it : Placed) : Type 0 where
+  is : placed ≡ it
+  new : list_any (λ other. bytes_eq other.key placed.key) kept ≡ false
+  free : list_any (meets geo placed.place placed.chunk (chunks_of geo placed)) kept ≡ false
+
+kept_beside : (geo : Geo) (kept : List Placed) (placed it : Placed) → verdict_beside geo kept placed ≡ is_kept it → IsBeside geo kept placed it
+kept_beside geo kept placed it e = elim (cases_Bool (list_any (λ other. bytes_eq other.key placed.key) kept)) [
+  | inl there ↦ (let clash : is_dropped cause.Duplicate ≡ is_kept it = rw there at e in cc clash)
+  | inr new ↦ elim (cases_Bool (list_any (meets geo placed.place placed.chunk (chunks_of geo placed)) kept)) [
+    | inl met ↦ (let clash : is_dropped cause.Overlap ≡ is_kept it = rw (new, met) at e in cc clash)
+    | inr free ↦ (let same : is_kept placed ≡ is_kept it = rw (new, free) at e in record { is = one placed it same; new = new; free = free })
+  ]
+]
+  where
+    one : (a b : Placed) → is_kept a ≡ is_kept b → a ≡ b
+    one a b e = cc e
+
+-- one that a slot points to
+record IsTakenUp (geo : Geo) (segment : ℕ) (kept : List Placed) (placed it : Placed) : Type 0 where
+  here : segment_of_key geo placed.key ≡ segment
+  beside : IsBeside geo kept placed it
+
+kept_on_entry : (geo : Geo) (segment : ℕ) (kept : List Placed) (fingerprint : ℕ) (placed it : Placed) → verdict_on_entry geo segment kept fingerprint placed ≡ is_kept it → IsTakenUp geo segment kept placed it
+kept_on_entry geo segment kept fingerprint placed it e = elim (eqb_tells (segment_of_key geo placed.key) segment) [
+  | inr fails ↦ (let f = fails.0 in let clash : is_dropped cause.Segment ≡ is_kept it = rw f at e in cc clash)
+  | inl here ↦ (let h = here.0 in elim (cases_Bool (fingerprint_in geo (hash placed.key) == fingerprint)) [
+    | inr fails ↦ (let clash : is_dropped cause.Fingerprint ≡ is_kept it = rw (h, fails) at e in cc clash)
+    | inl same ↦ record { here = here.1; beside = kept_beside geo kept placed it (rw (h, same) at e) }
+  ])
+]
+
+-- what is read where it stands
+record IsReadAt (geo : Geo) (segment : ℕ) (words : List ℕ) (kept : List Placed) (place : ℕ) (it : Placed) : Type 0 where
+  place_is : it.place ≡ place
+  reads : Stands geo words it
+  here : segment_of_key geo it.key ≡ segment
+  new : list_any (λ other. bytes_eq other.key it.key) kept ≡ false
+  free : list_any (meets geo it.place it.chunk (chunks_of geo it)) kept ≡ false
+
+kept_on_reading : (geo : Geo) (segment : ℕ) (words : List ℕ) (kept : List Placed) (fingerprint place chunk : ℕ) (it : Placed) (reading : Reading) → reading_at geo words place chunk ≡ reading
+    → verdict_on_reading geo segment kept fingerprint place chunk reading ≡ is_kept it → IsReadAt geo segment words kept place it
+kept_on_reading geo segment words kept fingerprint place chunk it wrong_lengths is e = cc e
+kept_on_reading geo segment words kept fingerprint place chunk it wrong_checksum is e = cc e
+kept_on_reading geo segment words kept fingerprint place chunk it wrong_filling is e = cc e
+kept_on_reading geo segment words kept fingerprint place chunk it (entry pair) is e =
+    let up = kept_on_entry geo segment kept fingerprint (entry_at pair.key pair.value place chunk) it e in
+    subst (λ (p : Placed). IsReadAt geo segment words kept place p) up.beside.is (record { place_is = refl; reads = is; here = up.here; new = up.beside.new; free = up.beside.free })
+
+kept_in_tier : (geo : Geo) (segment : ℕ) (words : List ℕ) (kept : List Placed) (fingerprint place : ℕ) (chunk : Option ℕ) (it : Placed)
+    → verdict_in_tier geo segment words kept fingerprint place chunk ≡ is_kept it → IsReadAt geo segment words kept place it
+kept_in_tier geo segment words kept fingerprint place None it e = cc e
+kept_in_tier geo segment words kept fingerprint place (Some chunk) it e = elim (cases_Bool (nat_le geo.chunks chunk)) [
+  | inl outside ↦ (let clash : is_dropped cause.Range ≡ is_kept it = rw outside at e in cc clash)
+  | inr inside ↦ kept_on_reading geo segment words kept fingerprint place chunk it (reading_at geo words place chunk) refl (rw inside at e)
+]
+
+-- what is known of the entry of a slot that is kept
+record IsSlotKept (geo : Geo) (segment : ℕ) (words places : List ℕ) (kept : List Placed) (it : Placed) : Type 0 where
+  among : In it.place places
+  reads : Stands geo words it
+  here : segment_of_key geo it.key ≡ segment
+  new : list_any (λ other. bytes_eq other.key it.key) kept ≡ false
+  free : list_any (meets geo it.place it.chunk (chunks_of geo it)) kept ≡ false
+
+slot_kept : (geo : Geo) (segment : ℕ) (words places : List ℕ) (kept : List Placed) (at : Occupied) (it : Placed) → verdict geo segment words places kept at ≡ is_kept it → IsSlotKept geo segment words places kept it
+slot_kept geo segment words places kept at it e = elim (cases_Bool (list_any (λ place. place == at.place) places)) [
+  | inr outside ↦ (let clash : is_dropped cause.Allowance ≡ is_kept it = rw outside at e in cc clash)
+  | inl among ↦ (
+      let read = kept_in_tier geo segment words kept at.slot.fingerprint at.place at.slot.chunk it (rw among at e) in
+      let one = some_any (λ place. place == at.place) places among in
+      let place_is : it.place ≡ one.0 = read.place_is ∙ sym (same one.0 at.place one.2) in
+      record { among = subst (λ (p : ℕ). In p places) (sym place_is) one.1; reads = read.reads; here = read.here; new = read.new; free = read.free })
+]
+  where
+    same : (a b : ℕ) → (a == b) ≡ true → a ≡ b
+    same a b e = grind (arith, nat_tests)
+
+-- the key's bytes are whole words, as many as the first word tells
+key_size : (geo : Geo) (words : List ℕ) (place chunk head : ℕ) → length words ≡ words_in_segment geo → place < geo.tiers → chunk + need geo (key_len head) (value_len head) ≤ geo.chunks
+    → length (key_bytes geo words place chunk head) ≡ 8 * parts_for 8 (key_len head)
+key_size geo words place chunk head many low inside =
+    let at : ℕ = chunk_at geo place chunk in
+    let pk : ℕ = parts_for 8 (key_len head) in
+    let pv : ℕ = parts_for 8 (value_len head) in
+    let chunk_words : 1 ≤ geo.chunk_words = omega (arith, (chunk_words_range geo).0) in
+    let range = run_in_range geo place chunk (need geo (key_len head) (value_len head)) low inside in
+    let enough = words_within (2 + parts_for 8 (key_len head) + parts_for 8 (value_len head)) geo.chunk_words chunk_words in
+    let room : at + (2 + pk + pv) ≤ length words = room_is at (2 + pk + pv) (need geo (key_len head) (value_len head)) geo.chunk_words (words_in_segment geo) (length words) enough range many in
+    bytes_len (take pk (drop (at + 2 + 0) words))
+    ∙ ap (λ (n : ℕ). 8 * n) (length-take-le pk (drop (at + 2 + 0) words) (behind at pk pv (length words) (drop (at + 2 + 0) words) (length-drop (at + 2 + 0) words) room))
+  where
+    room_is : (at count parts size range len : ℕ) → count ≤ parts * size → at + parts * size ≤ range → len ≡ range → at + count ≤ len
+    room_is at count parts size range len h k e = omega arith
+
+    behind : (at pk pv len : ℕ) (rest : List ℕ) → length rest ≡ len - (at + 2 + 0) → at + (2 + pk + pv) ≤ len → pk ≤ length rest
+    behind at pk pv len rest e room = omega arith
+
+-- an entry that is read has a run
+stands_run : (geo : Geo) (words : List ℕ) (placed : Placed) → length words ≡ words_in_segment geo → placed.place < geo.tiers → Stands geo words placed → HasRun geo placed
+unfolding reading_at
+stands_run geo words placed many low stands =
+    let at : ℕ = chunk_at geo placed.place placed.chunk in
+    let head : ℕ = get_or words at 0 in
+    let key : List ℕ = key_bytes geo words placed.place placed.chunk head in
+    let value : List ℕ = value_bytes geo words placed.place placed.chunk head in
+    let read : IsRead geo placed.chunk head (get_or words (at + 1) 0) key value (pair_of placed) = is_read geo placed.chunk head (get_or words (at + 1) 0) key value (pair_of placed) stands in
+    let fit = lengths_are (key_len head) (value_len head) (need geo (key_len head) (value_len head)) placed.chunk geo.chunks read.fit in
+    let key_length : length placed.key ≡ key_len head = ap (λ (l : List ℕ). length l) read.key_is
+    ∙ length-take-le (key_len head) key (whole_words (key_len head) (length key) (key_size geo words placed.place placed.chunk head many low fit.4)) in
+    let value_length : length placed.value ≡ value_len head = ap (λ (l : List ℕ). length l) read.value_is
+    ∙ length-take-le (value_len head) value (whole_words (value_len head) (length value) (value_size geo words placed.place placed.chunk head many low fit.4)) in
+    let fits : Fits geo (key_len head) (value_len head) = record { key_some = fit.0; key_short = fit.1; value_short = fit.2; few_chunks = fit.3 } in
+    record { fits = rw (key_length, value_length) fits; inside = rw (key_length, value_length) fit.4 }
+  where
+    lengths_are : (key value need chunk chunks : ℕ) → (nat_le 1 key && (nat_le key 256 && (nat_le value 4096 && (nat_le need 64 && nat_le (chunk + need) chunks)))) ≡ true
+        → (1 ≤ key) × (key ≤ 256) × (value ≤ 4096) × (need ≤ 64) × (chunk + need ≤ chunks)
+    lengths_are key value need chunk chunks e =
+        (grind (arith, nat_tests), grind (arith, nat_tests), grind (arith, nat_tests), grind (arith, nat_tests), grind (arith, nat_tests))
+
+    whole_words : (count len : ℕ) → len ≡ 8 * parts_for 8 count → count ≤ len
+    whole_words count len e = omega arith
+
+-- entries that are placed in tiers of a chain, in the order of their runs, with different keys
+record ArePlaced (geo : Geo) (segment : ℕ) (chain : List ℕ) (entries : List Placed) : Type 0 where
+  placed : AllByRecursion (IsPlaced geo segment chain) entries
+  rising : Pairs (Rising geo) entries
+  keys : Pairs Differs entries
+
+-- one more slot
+placed_more : (geo : Geo) (segment : ℕ) (words places : List ℕ) (kept : Kept) (at : Occupied) → length words ≡ words_in_segment geo → AllByRecursion (λ place. place < geo.tiers) places
+    → ArePlaced geo segment places kept.entries → (it : Verdict) → verdict geo segment words places kept.entries at ≡ it → ArePlaced geo segment places (kept_with geo kept it).entries
+placed_more geo segment words places kept at many low was (is_dropped why) e = was
+placed_more geo segment words places kept at many low was (is_kept placed) e =
+    let slot = slot_kept geo segment words places kept.entries at placed e in
+    let run = stands_run geo words placed many (in_has (λ place. place < geo.tiers) places placed.place low slot.among) slot.reads in
+    let within : nat_le (placed.chunk + chunks_of geo placed) geo.chunks ≡ true = is_within (placed.chunk + chunks_of geo placed) geo.chunks run.inside in
+    let alone = slot.free in
+    let free : is_free geo kept.entries placed.place placed.chunk (chunks_of geo placed) ≡ true = rw (within, alone) refl in
+    let apart = fresh_apart geo placed kept.entries (each_weaker (IsPlaced geo segment places) (HasRun geo) (λ other h. h.run) kept.entries was.placed) free in
+    let others : AllByRecursion (λ other. other.key ≢ placed.key) kept.entries =
+    each_weaker (λ other. bytes_eq other.key placed.key ≡ false) (λ other. other.key ≢ placed.key) (λ other fails same. clash (bytes_eq other.key placed.key) ((bytes_eq-Decides other.key placed.key).1 same) fails) kept.entries
+    (each_fails (λ other. bytes_eq other.key placed.key) kept.entries slot.new) in
+    record {
+      placed = each_with geo (IsPlaced geo segment places) placed kept.entries was.placed (record { here = slot.here; chained = in_to places placed.place slot.among; run = run });
+      rising = rising_with geo placed kept.entries was.rising apart;
+      keys = keys_with geo placed kept.entries was.keys others;
+    }
+  where
+    is_within : (a b : ℕ) → a ≤ b → nat_le a b ≡ true
+    is_within a b h = grind (arith, nat_tests)
+
+    clash : (b : Bool) → b ≡ true → b ≡ false → ⊥
+    clash b one other = cc (sym one ∙ other)
+
+all_placed : (geo : Geo) (segment : ℕ) (words places : List ℕ) (kept : Kept) (slots : List Occupied) → length words ≡ words_in_segment geo → AllByRecursion (λ place. place < geo.tiers) places
+    → ArePlaced geo segment places kept.entries → ArePlaced geo segment places (kept_of geo segment words places kept slots).entries
+all_placed geo segment words places kept [] many low was = was
+all_placed geo segment words places kept (at ∷ slots) many low was =
+    all_placed geo segment words places (kept_with geo kept (verdict geo segment words places kept.entries at)) slots many low
+    (placed_more geo segment words places kept at many low was (verdict geo segment words places kept.entries at) refl)
+
+-- what is kept is a state
+pub any_state : (geo : Geo) (words_of : ℕ → List ℕ) (segment : ℕ) → length (words_of segment) ≡ words_in_segment geo → IsState geo segment (kept_state geo words_of segment)
+unfolding kept_in
+any_state geo words_of segment many =
+    let chain = allowed_chain geo words_of segment in
+    let places : List ℕ = allowed geo words_of segment in
+    let entries : List Placed = (kept_of geo segment (words_of segment) places (record { entries = []; drops = [] }) (occupied geo (words_of segment))).entries in
+    let all : ArePlaced geo segment places entries = all_placed geo segment (words_of segment) places (record { entries = []; drops = [] }) (occupied geo (words_of segment)) many
+    (recursion_from_All (λ place. place < geo.tiers) places chain.inside) (record { placed = tt; rising = tt; keys = tt }) in
+    record {
+      chain = chain;
+      placed = All-from_recursion (IsPlaced geo segment places) entries all.placed;
+      runs = all_from_pairs (Rising geo) entries all.rising;
+      keys = all_from_pairs Differs entries all.keys;
+    }
