@@ -1,4 +1,4 @@
--- What a removal stores in a ring of slots (own, after the shift of Chronicle Map).
+-- What a removal stores in a ring of slots (after Knuth's Algorithm R, with the direction of probing turned round).
 use Rattle.std.specs.Prelude.{ℕ, ◌≡◌, ◌≢◌, ◌+◌, ◌<◌, List, [], ◌∷◌, ◌++◌}
 use Rattle.cm_lookup.specs.Rings.{Ring, way, onward, looked}
 
