@@ -13,20 +13,20 @@ use Rattle.chronmap.specs.declared.status.Status.TheVariants as status
 use Rattle.chronmap.specs.declared.stop.Stop.{Stop}
 use Rattle.chronmap.specs.declared.stop.Stop.TheVariants as stop
 use Rattle.chronmap.specs.Told.{Seen}
-use Rattle.chronmap.specs.Words.{Runs, run_words}
+use Rattle.chronmap.specs.CommandLine.{GivesGeometry, command_words}
 use Rattle.chronmap.specs.Stops.{CausesRead}
 use Rattle.chronmap.specs.Served.{Took, Refuses, Causes}
 use Rattle.chronmap.specs.Refusals.{IsNoScript, StopsFor, stop_of_read, stop_of_script, status_of, refusal_text}
 
 -- why the input was not read is why there is no report
 pub stops-from_read : (words : List (List ℕ)) (source later : Seen) (geo : Geo) (why : ReadStop)
-    → Runs words geo → CausesRead source.faults later.faults why → StopsFor words source later (stop_of_read why)
+    → GivesGeometry words geo → CausesRead source.faults later.faults why → StopsFor words source later (stop_of_read why)
 stops-from_read words source later geo read_stop.Fault runs rose = (geo, runs, rose)
 stops-from_read words source later geo read_stop.NoMemory runs rose = (geo, runs)
 
 -- and so is why the input is no script
 pub stops-from_script : (words : List (List ℕ)) (source later : Seen) (geo : Geo) (input : List ℕ) (why : ScriptStop)
-    → Runs words geo → Took source later input → StopsScript geo input why → StopsFor words source later (stop_of_script why)
+    → GivesGeometry words geo → Took source later input → StopsScript geo input why → StopsFor words source later (stop_of_script why)
 stops-from_script words source later geo input script_stop.TooLong runs took stops = (geo, runs, input, took, stops)
 stops-from_script words source later geo input (script_stop.Refused line cause) runs took stops = (geo, runs, input, took, stops)
 stops-from_script words source later geo input script_stop.NoMemory runs took stops = (geo, runs)
@@ -42,7 +42,7 @@ causes-from_stop words source later_source sink later_sink stop.ReadFault (geo, 
 
 -- words outside the grammar are refused as such, and nothing else
 pub usage-from_stop : (words : List (List ℕ)) (source later_source : Seen) (why : Stop)
-    → StopsFor words source later_source why → words ≢ run_words → status_of why ≡ status.Usage
+    → StopsFor words source later_source why → words ≢ command_words → status_of why ≡ status.Usage
 usage-from_stop words source later_source stop.NoMemory (geo, runs) other = absurd (other runs.words_are)
 usage-from_stop words source later_source stop.Usage stops other = refl
 usage-from_stop words source later_source stop.TooLong (geo, runs, input, took, is) other = absurd (other runs.words_are)

@@ -19,7 +19,7 @@ use Rattle.cm_plain.specs.States.{one_tier}
 use Rattle.cm_script.specs.declared.line.Line.{Line}
 use Rattle.cm_script.specs.Explained.{Answers, AnswersAll, AnswersBy, AnswersOnce, Explained, IsOf, call_at, calls_in, is_sweep, map_line}
 use Rattle.cm_script.specs.Scripts.{IsFor, is_built, is_built_op}
-use Rattle.chronmap.specs.Runs.{MapsState, Receives}
+use Rattle.chronmap.specs.RunRecords.{MapsState, Receives}
 use Rattle.chronmap.proofs.Answering.{all_of_first, answers_more, calls_more, numbered_more}
 use Rattle.chronmap.proofs.Histories.{More, begins, count, is_legal, more, state_at}
 

@@ -96,8 +96,8 @@ granted_change (reply.Pairs pairs) e = refl
 granted_change reply.SweptAll e = refl
 
 -- the calls that change something, with one more
-kept_change : (calls : List Call) (call : Call) → changes call ≡ true → filter changes (calls ++ call ∷ []) ≡ filter changes calls ++ call ∷ []
-kept_change calls call e = filter-append changes calls (call ∷ []) ∙ rw e refl
+copied_change : (calls : List Call) (call : Call) → changes call ≡ true → filter changes (calls ++ call ∷ []) ≡ filter changes calls ++ call ∷ []
+copied_change calls call e = filter-append changes calls (call ∷ []) ∙ rw e refl
 
 kept_other : (calls : List Call) (call : Call) → changes call ≡ false → filter changes (calls ++ call ∷ []) ≡ filter changes calls
 kept_other calls call e = filter-append changes calls (call ∷ []) ∙ rw e (append-nil (filter changes calls))
@@ -119,7 +119,7 @@ pub more_change : (geo : Geo) (calls : List Call) (hist : List State) (old new :
     → Answered old new false call.op call.receipt.reply → call.receipt.number ≡ new.number → changes call ≡ true → History geo (calls ++ call ∷ []) (hist ++ new.state ∷ []) new
 more_change geo calls hist old new call h answered number_is changed =
     let n = count calls in
-    let kept = kept_change calls call changed in
+    let kept = copied_change calls call changed in
     let counted : count (calls ++ call ∷ []) ≡ n + 1 = ap length kept ∙ length_push (filter changes calls) call in
     let raised : new.number ≡ n + 1 = (rw changed at answered.number_is) ∙ ap (λ (k : ℕ). k + 1) h.number_is in
     let at_last : state_at (hist ++ new.state ∷ []) (n + 1) ≡ new.state = get_or_push hist new.state one_tier (n + 1) h.long in

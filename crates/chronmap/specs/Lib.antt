@@ -1,9 +1,9 @@
 pub mod Causes
 pub mod Told
 pub mod Stops
-pub mod Words
+pub mod CommandLine
 pub mod Statuses
 pub mod Served
 pub mod Printed
 pub mod Refusals
-pub mod Runs
+pub mod RunRecords

@@ -12,7 +12,7 @@ use Rattle.chronmap.specs.declared.stop.Stop.{Stop}
 use Rattle.chronmap.specs.declared.stop.Stop.TheVariants as stop
 use Rattle.chronmap.specs.Causes.{Rose}
 use Rattle.chronmap.specs.Told.{Seen}
-use Rattle.chronmap.specs.Words.{Runs, run_words}
+use Rattle.chronmap.specs.CommandLine.{GivesGeometry, command_words}
 use Rattle.chronmap.specs.Statuses.{memory_text, usage_text, read_text, script_text}
 use Rattle.chronmap.specs.Served.{Took, Untouched}
 
@@ -44,14 +44,14 @@ refusal_text stop.ReadFault = read_text
 -- the input was taken, and is no script
 abbrev pub IsNoScript : List (List ℕ) → Seen → Seen → Type 0
 IsNoScript words source later_source =
-    (geo : Geo) × Runs words geo × (input : List ℕ) × Took source later_source input × (why : Refusal) × (script_of geo input ≡ Err why)
+    (geo : Geo) × GivesGeometry words geo × (input : List ℕ) × Took source later_source input × (why : Refusal) × (script_of geo input ≡ Err why)
 
 -- the cause of each refusal, by what the words and the source show; want of memory comes only after words that run
 abbrev pub StopsFor : List (List ℕ) → Seen → Seen → Stop → Type 0
-StopsFor words source later_source stop.NoMemory = (geo : Geo) × Runs words geo
-StopsFor words source later_source stop.Usage = (words ≢ run_words) × Untouched source later_source
+StopsFor words source later_source stop.NoMemory = (geo : Geo) × GivesGeometry words geo
+StopsFor words source later_source stop.Usage = (words ≢ command_words) × Untouched source later_source
 StopsFor words source later_source stop.TooLong =
-    (geo : Geo) × Runs words geo × (input : List ℕ) × Took source later_source input × (script_of geo input ≡ Err too_long)
+    (geo : Geo) × GivesGeometry words geo × (input : List ℕ) × Took source later_source input × (script_of geo input ≡ Err too_long)
 StopsFor words source later_source (stop.Refused line cause) =
-    (geo : Geo) × Runs words geo × (input : List ℕ) × Took source later_source input × (script_of geo input ≡ Err (refused line cause))
-StopsFor words source later_source stop.ReadFault = (geo : Geo) × Runs words geo × Rose source.faults later_source.faults
+    (geo : Geo) × GivesGeometry words geo × (input : List ℕ) × Took source later_source input × (script_of geo input ≡ Err (refused line cause))
+StopsFor words source later_source stop.ReadFault = (geo : Geo) × GivesGeometry words geo × Rose source.faults later_source.faults

@@ -1,6 +1,7 @@
 //! Runs scripts of callers over one map, and prints their answers and the final map.
 #![tactic(auto)]
 
+mod command;
 mod memory;
 mod real;
 mod refuse;
@@ -13,9 +14,9 @@ mod stop;
 #[cfg(test)]
 mod tests;
 mod word;
-mod words;
 
 use cm_plain::NoMemory;
+use command::words_of;
 pub use memory::{SliceSource, VecSink};
 pub use real::{StdSink, StdSource};
 use refuse::refuse;
@@ -28,7 +29,6 @@ use std::process::ExitCode;
 use std::{env, io};
 use stop::Stop;
 pub use word::Word;
-use words::words_of;
 
 // The words behind the program's name, of the arguments as they could be read. Arguments that are no
 // text are words that the program doesn't take.

@@ -15,7 +15,7 @@ pub struct SliceSource<'a> {
     failing: Vec<u32>,
     calls: u32,
     faults: u64,
-    ghost some: { 1 ≤ piece },
+    ghost nonzero: { 1 ≤ piece },
 }
 
 // Whether the call of this number is to fail.
@@ -71,7 +71,7 @@ pub struct VecSink {
     failing: Vec<u32>,
     calls: u32,
     faults: u64,
-    ghost some: { 1 ≤ piece },
+    ghost nonzero: { 1 ≤ piece },
 }
 
 impl VecSink {

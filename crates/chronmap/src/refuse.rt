@@ -7,7 +7,7 @@ ghost use Rattle.chronmap.specs.Causes.{HasCause};
 ghost use Rattle.chronmap.specs.Refusals.{refusal_text, status_of};
 ghost use Rattle.chronmap.specs.Served.{Refuses};
 ghost use Rattle.chronmap.specs.Statuses.{cause_word, script_text};
-ghost use Rattle.chronmap.specs.Told.{AppendsFront};
+ghost use Rattle.chronmap.specs.Told.{AppendsPrefix};
 
 use crate::sink::{Sink, write_text};
 use crate::status::Status;
@@ -34,7 +34,7 @@ fn cause_end(cause: LineCause) -> &'static [u8]
 fn write_refused<W: Sink>(sink: &mut W, line: u32, cause: LineCause) -> Result<(), Failed>
     ensures cause { HasCause (W.faults sink.old) (W.faults sink.new) result }
     ensures whole { OnOk result (Appends (W.held sink.old) (W.held sink.new) (script_text (refused line cause))) }
-    ensures front { OnErr result (AppendsFront (W.held sink.old) (W.held sink.new) (script_text (refused line cause))) }
+    ensures front { OnErr result (AppendsPrefix (W.held sink.old) (W.held sink.new) (script_text (refused line cause))) }
 {
     let mut buffer = Buffer::new();
     write_text(sink, b"refused,script,")?;
@@ -46,7 +46,7 @@ fn write_refused<W: Sink>(sink: &mut W, line: u32, cause: LineCause) -> Result<(
 fn write_refusal<W: Sink>(sink: &mut W, stop: Stop) -> Result<(), Failed>
     ensures cause { HasCause (W.faults sink.old) (W.faults sink.new) result }
     ensures whole { OnOk result (Appends (W.held sink.old) (W.held sink.new) (refusal_text stop)) }
-    ensures front { OnErr result (AppendsFront (W.held sink.old) (W.held sink.new) (refusal_text stop)) }
+    ensures front { OnErr result (AppendsPrefix (W.held sink.old) (W.held sink.new) (refusal_text stop)) }
 {
     match stop {
         Stop::NoMemory => write_text(sink, b"refused,memory\n"),

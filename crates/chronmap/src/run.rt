@@ -31,7 +31,7 @@ const SEGMENT: u32 = 0;
 ghost use Rattle.std.specs.Prelude.{true, ◌^◌, ◌<◌, OnErr};
 ghost use Rattle.cm_plain.specs.Limits.{KeepsLimits};
 ghost use Rattle.cm_script.specs.Scripts.{is_built};
-ghost use Rattle.chronmap.specs.Runs.{MapsState, Receives};
+ghost use Rattle.chronmap.specs.RunRecords.{MapsState, Receives};
 
 /// Performs one record, and gives its receipt. Takes memory.
 fn perform(

@@ -6,7 +6,7 @@ use Rattle.std.proofs.lemmas.Nat.{shr-shr}
 use Rattle.std.proofs.lemmas.Nat.Bits.{bit_at-lt, bit_at-trailing_zeros, bit_at_above, bit_at_and, bit_at_not}
 use Rattle.std.proofs.Math.Nat.{min-eq_left, min-eq_right}
 use Rattle.cm_chunks.specs.Bits.{AreClear, IsFirstClear}
-use Rattle.cm_chunks.proofs.OneWord.{clear_of_zero, zero_of_clear}
+use Rattle.cm_chunks.proofs.WordBits.{clear_of_zero, zero_of_clear}
 
 -- a bit tells whether so many bits of the word from it on are clear
 pub record TellsRuns (word runs bits : ℕ) : Type 0 where
@@ -36,10 +36,10 @@ both a b p q e = elim (cases_lt a b) [
 
 -- more bits, where the further ones are known from no farther on
 pub tells_more : (word runs bits more : ℕ) → more ≤ bits → TellsRuns word runs bits → TellsRuns word (bit_and runs (runs / 2 ^ more)) (bits + more)
-tells_more word runs bits more short tells = record {
+tells_more word runs bits more in_one_word knows = record {
   only = λ bit one. (let parts = both (bit_at runs bit) (bit_at (runs / 2 ^ more) bit) (bit_at-lt runs bit) (bit_at-lt (runs / 2 ^ more) bit) (sym (bit_at_and runs (runs / 2 ^ more) bit) ∙ one) in
-      let near = tells.only bit parts.0 in
-      let far = tells.only (more + bit) (sym (behind bit) ∙ parts.1) in record {
+      let near = knows.only bit parts.0 in
+      let far = knows.only (more + bit) (sym (behind bit) ∙ parts.1) in record {
         inside = omega (arith, far.inside);
         clear = λ other from to. elim (cases_lt other (bit + bits)) [
           | inl less ↦ near.clear other from less
@@ -47,8 +47,8 @@ tells_more word runs bits more short tells = record {
         ];
       });
   all = λ bit run.
-      let near : bit_at runs bit ≡ 1 = tells.all bit (record { inside = omega (arith, run.inside); clear = λ other from to. run.clear other from (omega arith) }) in
-      let far : bit_at (runs / 2 ^ more) bit ≡ 1 = behind bit ∙ tells.all (more + bit) (record { inside = omega (arith, run.inside); clear = λ other from to. run.clear other (omega arith) (omega arith) }) in
+      let near : bit_at runs bit ≡ 1 = knows.all bit (record { inside = omega (arith, run.inside); clear = λ other from to. run.clear other from (omega arith) }) in
+      let far : bit_at (runs / 2 ^ more) bit ≡ 1 = behind bit ∙ knows.all (more + bit) (record { inside = omega (arith, run.inside); clear = λ other from to. run.clear other (omega arith) (omega arith) }) in
       let same : bit_at runs bit ≤ bit_at (runs / 2 ^ more) bit = omega (arith, near, far) in
       bit_at_and runs (runs / 2 ^ more) bit ∙ (min-eq_left same ∙ near);
 }
@@ -58,12 +58,12 @@ tells_more word runs bits more short tells = record {
 
 -- the lowest that does is the first
 pub first_clear : (word runs bits : ℕ) → runs < 2 ^ 64 → runs ≢ 0 → TellsRuns word runs bits → IsFirstClear word bits (trailing_zeros w64 runs)
-first_clear word runs bits small some tells =
+first_clear word runs bits small nonzero knows =
     let lowest = bit_at-trailing_zeros w64 runs (omega arith) small in
     record {
-      run = tells.only (trailing_zeros w64 runs) lowest.1;
+      run = knows.only (trailing_zeros w64 runs) lowest.1;
       least = λ other run. elim (cases_lt other (trailing_zeros w64 runs)) [
-        | inl less ↦ (let zero = lowest.2 other less in let one = tells.all other run in absurd (omega (arith, zero, one)))
+        | inl less ↦ (let zero = lowest.2 other less in let one = knows.all other run in absurd (omega (arith, zero, one)))
         | inr more ↦ more
       ];
     }

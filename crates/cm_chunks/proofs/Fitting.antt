@@ -9,7 +9,7 @@ use Rattle.cm_plain.specs.Lawful.{HasBit}
 use Rattle.cm_chunks.specs.Bits.{AreClear, IsFirstClear}
 use Rattle.cm_chunks.specs.Free.{IsFirstFit, IsFreeRun}
 use Rattle.cm_chunks.specs.Passing.{GoesOn, IsPassed}
-use Rattle.cm_chunks.proofs.OneWord.{clear_of_zero, leading_clear, leading_set, leading_short, trailing_clear, trailing_set, trailing_short, zero_of_clear}
+use Rattle.cm_chunks.proofs.WordBits.{clear_of_zero, leading_clear, leading_set, leading_short, trailing_clear, trailing_set, trailing_short, zero_of_clear}
 
 -- the bit of a chunk as a number
 unfoldable pub bit_of : Geo → List ℕ → ℕ → ℕ → ℕ
@@ -58,15 +58,15 @@ clear_in_word geo words place chunks number word chunk has run from to = record 
 
 -- of the first word there is nothing to say
 pub passed_none : (geo : Geo) (words : List ℕ) (place chunks : ℕ) → IsPassed geo words place chunks 0 0
-passed_none geo words place chunks = record { free = λ chunk late early. absurd (omega arith); runs = λ chunk early. absurd (omega arith) }
+passed_none geo words place chunks = record { free = λ chunk not_before early. absurd (omega arith); runs = λ chunk early. absurd (omega arith) }
 
 -- no run begins before the word, if the clear bits at its front are too few
 none_before : (geo : Geo) (words : List ℕ) (place chunks number before word chunk : ℕ) → IsPassed geo words place chunks number before → HasWord geo words place number word → chunks ≤ 64
     → before + trailing_zeros w64 word < chunks → chunk < 64 * number → IsFreeRun geo words place chunk chunks → ⊥
-none_before geo words place chunks number before word chunk passed has few short early run =
-    let goes = passed.runs chunk early run in
+none_before geo words place chunks number before word chunk passed has within_limit in_one_word early run =
+    let fuse = passed.runs chunk early run in
     let inside : trailing_zeros w64 word < 64 = omega arith in
-    let zero = zero_in_run geo words place chunks number word chunk (trailing_zeros w64 word) has run inside (omega arith) (omega (arith, goes.late)) in
+    let zero = zero_in_run geo words place chunks number word chunk (trailing_zeros w64 word) has run inside (omega arith) (omega (arith, fuse.not_before)) in
     let one = trailing_set word has.small inside in
     omega (arith, zero, one)
 
@@ -74,9 +74,9 @@ none_before geo words place chunks number before word chunk passed has few short
 begins_here : (geo : Geo) (words : List ℕ) (place chunks number word chunk : ℕ) → HasWord geo words place number word → ((bit : ℕ) → AreClear word bit chunks → ⊥)
     → 64 * number ≤ chunk → chunk < 64 * number + 64 → IsFreeRun geo words place chunk chunks → GoesOn (number + 1) (leading_zeros w64 word) chunks chunk
 begins_here geo words place chunks number word chunk has none from to run = record {
-  late = elim (cases_lt (chunk + leading_zeros w64 word) (64 * (number + 1))) [
+  not_before = elim (cases_lt (chunk + leading_zeros w64 word) (64 * (number + 1))) [
     | inl early ↦ absurd (set_in_run early)
-    | inr late ↦ late
+    | inr not_before ↦ not_before
   ];
   past = past;
 }
@@ -89,19 +89,19 @@ begins_here geo words place chunks number word chunk has none from to run = reco
 
     set_in_run : chunk + leading_zeros w64 word < 64 * (number + 1) → ⊥
     set_in_run early =
-        let short : leading_zeros w64 word < 64 = omega arith in
+        let in_one_word : leading_zeros w64 word < 64 = omega arith in
         let zero = zero_in_run geo words place chunks number word chunk (63 - leading_zeros w64 word) has run (omega arith) (omega arith) (omega (arith, past)) in
-        let one = leading_set word has.small short in
+        let one = leading_set word has.small in_one_word in
         omega (arith, zero, one)
 
 -- the word is passed, if no run ends in it
 pub passes_word : (geo : Geo) (words : List ℕ) (place chunks number before word : ℕ) → IsPassed geo words place chunks number before → HasWord geo words place number word → chunks ≤ 64
     → before + trailing_zeros w64 word < chunks → ((bit : ℕ) → AreClear word bit chunks → ⊥) → IsPassed geo words place chunks (number + 1) (leading_zeros w64 word)
-passes_word geo words place chunks number before word passed has few short none = record {
-  free = λ chunk late early. (let lead = leading_short word has.small in
+passes_word geo words place chunks number before word passed has within_limit in_one_word none = record {
+  free = λ chunk not_before early. (let lead = leading_short word has.small in
       clear_here geo words place number word chunk has (omega arith) (omega arith) (leading_clear word (chunk - 64 * number) has.small (omega arith)));
   runs = λ chunk early run. elim (cases_lt chunk (64 * number)) [
-    | inl before_it ↦ absurd (none_before geo words place chunks number before word chunk passed has few short before_it run)
+    | inl before_it ↦ absurd (none_before geo words place chunks number before word chunk passed has within_limit in_one_word before_it run)
     | inr in_it ↦ begins_here geo words place chunks number word chunk has none in_it (omega arith) run
   ];
 }
@@ -109,7 +109,7 @@ passes_word geo words place chunks number before word passed has few short none 
 -- the run that ends among the clear bits at the word's front is the first
 pub fits_across : (geo : Geo) (words : List ℕ) (place chunks number before word : ℕ) → IsPassed geo words place chunks number before → HasWord geo words place number word
     → number < geo.chunks / 64 → before ≤ 64 * number → chunks ≤ before + trailing_zeros w64 word → IsFirstFit geo words place chunks (64 * number - before)
-fits_across geo words place chunks number before word passed has inside few enough =
+fits_across geo words place chunks number before word passed has inside within_limit enough =
     let whole = chunks_whole geo in
     let front = trailing_short word in
     record {
@@ -117,19 +117,19 @@ fits_across geo words place chunks number before word passed has inside few enou
         inside = omega (arith, whole.1, front);
         clear = λ other from to. elim (cases_lt other (64 * number)) [
           | inl early ↦ passed.free other (omega arith) early
-          | inr late ↦ clear_here geo words place number word other has late (omega (arith, front)) (trailing_clear word (other - 64 * number) has.small (omega arith))
+          | inr not_before ↦ clear_here geo words place number word other has not_before (omega (arith, front)) (trailing_clear word (other - 64 * number) has.small (omega arith))
         ];
       };
       least = λ other run. elim (cases_lt other (64 * number)) [
-        | inl early ↦ (let goes = passed.runs other early run in omega (arith, goes.late))
-        | inr late ↦ omega arith
+        | inl early ↦ (let fuse = passed.runs other early run in omega (arith, fuse.not_before))
+        | inr not_before ↦ omega arith
       ];
     }
 
 -- the first run of clear bits in the word is the first, if no run ends before it
 pub fits_inside : (geo : Geo) (words : List ℕ) (place chunks number before word bit : ℕ) → IsPassed geo words place chunks number before → HasWord geo words place number word → chunks ≤ 64
     → number < geo.chunks / 64 → before + trailing_zeros w64 word < chunks → IsFirstClear word chunks bit → IsFirstFit geo words place chunks (64 * number + bit)
-fits_inside geo words place chunks number before word bit passed has few inside short first =
+fits_inside geo words place chunks number before word bit passed has within_limit inside in_one_word first =
     let whole = chunks_whole geo in
     let room = first.run.inside in
     record {
@@ -139,9 +139,9 @@ fits_inside geo words place chunks number before word bit passed has few inside 
             (zero_of_clear word (other - 64 * number) (first.run.clear (other - 64 * number) (omega arith) (omega arith)));
       };
       least = λ other run. elim (cases_lt other (64 * number)) [
-        | inl early ↦ absurd (none_before geo words place chunks number before word other passed has few short early run)
-        | inr late ↦ elim (cases_lt other (64 * number + bit)) [
-          | inl less ↦ (let least = first.least (other - 64 * number) (clear_in_word geo words place chunks number word other has run late (omega (arith, room))) in omega (arith, least))
+        | inl early ↦ absurd (none_before geo words place chunks number before word other passed has within_limit in_one_word early run)
+        | inr not_before ↦ elim (cases_lt other (64 * number + bit)) [
+          | inl less ↦ (let least = first.least (other - 64 * number) (clear_in_word geo words place chunks number word other has run not_before (omega (arith, room))) in omega (arith, least))
           | inr more ↦ more
         ]
       ];
@@ -149,8 +149,8 @@ fits_inside geo words place chunks number before word bit passed has few inside 
 
 -- no run, if all words were passed
 pub none_fits : (geo : Geo) (words : List ℕ) (place chunks number before chunk : ℕ) → IsPassed geo words place chunks number before → geo.chunks / 64 ≤ number → 1 ≤ chunks → IsFreeRun geo words place chunk chunks → ⊥
-none_fits geo words place chunks number before chunk passed past some run =
+none_fits geo words place chunks number before chunk passed past nonzero run =
     let whole = chunks_whole geo in
     let room = run.inside in
-    let goes = passed.runs chunk (omega (arith, whole.1, room)) run in
-    omega (arith, whole.1, room, goes.past)
+    let fuse = passed.runs chunk (omega (arith, whole.1, room)) run in
+    omega (arith, whole.1, room, fuse.past)

@@ -1,11 +1,11 @@
 -- The lemmas on bits and runs of chunks.
-pub mod OneWord
+pub mod WordBits
 pub mod ClearRuns
 pub mod Fitting
-pub mod Passing
+pub mod SearchLoop
 pub mod Freeing
-pub mod Turning
-pub mod Turned
-pub mod OnTheWay
-pub mod AsState
+pub mod TurnStores
+pub mod TurnedRuns
+pub mod PartialTurn
+pub mod StateRuns
 pub mod Trials

@@ -3,7 +3,7 @@ use Rattle.std.proofs.Common.{◌<◌, ◌≤◌, arith}
 use Rattle.std.proofs.Math.Nat.{zero-mul}
 use Rattle.cm_geo.specs.declared.geo.Geo.{Geo}
 use Rattle.cm_geo.specs.Addresses.{words_in_map, words_in_segment}
-use Rattle.cm_geo.proofs.InOrder.{segment_within}
+use Rattle.cm_geo.proofs.AddressOrder.{segment_within}
 use Rattle.cm_geo.proofs.Ranges.{segments_range, tiers_range}
 
 -- a segment is in the map

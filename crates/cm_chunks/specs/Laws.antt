@@ -7,17 +7,17 @@ use Rattle.cm_plain.specs.Lawful.{HasBit, IsTaken}
 use Rattle.cm_chunks.specs.Free.{FindsFit, IsFreeRun}
 
 -- the bits of the tier at a place that are set are those of the chunks in runs
-abbrev pub BitsTell : Geo → List ℕ → State → ℕ → Type 0
-BitsTell geo words state place = (chunk : ℕ) → chunk < geo.chunks → (HasBit geo words place chunk ↔ IsTaken geo state place chunk)
+abbrev pub BitsRepresent : Geo → List ℕ → State → ℕ → Type 0
+BitsRepresent geo words state place = (chunk : ℕ) → chunk < geo.chunks → (HasBit geo words place chunk ↔ IsTaken geo state place chunk)
 
 -- so many chunks are free in the words just where they are in the state
 abbrev pub IsFreeAsState : Type 0
 IsFreeAsState =
-    (geo : Geo) (words : List ℕ) (state : State) (place chunk chunks : ℕ) → BitsTell geo words state place → 1 ≤ chunks
+    (geo : Geo) (words : List ℕ) (state : State) (place chunk chunks : ℕ) → BitsRepresent geo words state place → 1 ≤ chunks
     → (IsFreeRun geo words place chunk chunks ↔ (is_free geo state.entries place chunk chunks ≡ true))
 
 -- what is found in the words is the state's first fit in the tier
 abbrev pub FindsAsState : Type 0
 FindsAsState =
-    (geo : Geo) (words : List ℕ) (state : State) (place chunks : ℕ) (found : Option ℕ) → BitsTell geo words state place → 1 ≤ chunks
+    (geo : Geo) (words : List ℕ) (state : State) (place chunks : ℕ) (found : Option ℕ) → BitsRepresent geo words state place → 1 ≤ chunks
     → FindsFit geo words place chunks found → found ≡ least_free geo state.entries chunks place

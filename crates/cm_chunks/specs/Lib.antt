@@ -4,5 +4,5 @@ pub mod Free
 pub mod Passing
 pub mod Stores
 pub mod Turns
-pub mod Runs
+pub mod RunBits
 pub mod Laws

@@ -9,9 +9,9 @@ use Rattle.cm_chunks.specs.declared.turn.Turn.{Turn}
 use Rattle.cm_chunks.specs.declared.turn.Turn.TheVariants.{Set, Clear}
 
 -- a word with some bits set or cleared
-abbrev pub turned : Turn → ℕ → ℕ → ℕ
-turned Set word bits = bit_or word bits
-turned Clear word bits = bit_and word (bit_not w64 bits)
+abbrev pub turned_word : Turn → ℕ → ℕ → ℕ
+turned_word Set word bits = bit_or word bits
+turned_word Clear word bits = bit_and word (bit_not w64 bits)
 
 -- the bits of a run in the bit word of a number
 abbrev pub bits_in : Run → ℕ → ℕ
@@ -20,16 +20,16 @@ bits_in run number = 2 ^ min 64 (run.chunk + run.chunks - 64 * number) - 2 ^ (ru
 -- the store of this bit word
 abbrev pub turn_at : Turn → Geo → Run → ℕ → List ℕ → List (ℕ × ℕ)
 turn_at turn geo run number words =
-    (bits_at geo run.place number, turned turn (word_at words (bits_at geo run.place number)) (bits_in run number)) ∷ []
+    (bits_at geo run.place number, turned_word turn (word_at words (bits_at geo run.place number)) (bits_in run number)) ∷ []
 
 -- the bit words in which a run lies: that of its first chunk, and the next one where it goes on there
-abbrev pub touched : Run → List ℕ
-touched run =
+abbrev pub bit_words_of : Run → List ℕ
+bit_words_of run =
     if nat_lt 64 (run.chunk % 64 + run.chunks) then run.chunk / 64 ∷ (run.chunk / 64 + 1) ∷ [] else run.chunk / 64 ∷ []
 
 -- a store of each of these, the lower one first
 abbrev pub stores_for : Turn → Geo → Run → List ℕ → List (ℕ × ℕ)
-stores_for turn geo run words = flat_map (λ number. turn_at turn geo run number words) (touched run)
+stores_for turn geo run words = flat_map (λ number. turn_at turn geo run number words) (bit_words_of run)
 
 abbrev pub stores_to_set : Geo → Run → List ℕ → List (ℕ × ℕ)
 stores_to_set geo run words = stores_for Set geo run words

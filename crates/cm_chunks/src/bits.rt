@@ -5,7 +5,7 @@ ghost use Rattle.cm_chunks.specs.Bits.{FindsClear};
 
 /// The bits of a word from `low` up to `high` alone are set.
 pub(crate) fn bits_between(low: u32, high: u32) -> u64
-    requires some { low < high }
+    requires nonzero { low < high }
     requires inside { high ≤ 64 }
     ensures { result ≡ 2 ^ high - 2 ^ low }
 {
@@ -14,8 +14,8 @@ pub(crate) fn bits_between(low: u32, high: u32) -> u64
 
 /// The least bit of a word from which so many bits of it are clear.
 pub(crate) fn clear_run_in(word: u64, bits: u32) -> Option<u32>
-    requires some { 1 ≤ bits }
-    requires few { bits ≤ 64 }
+    requires nonzero { 1 ≤ bits }
+    requires within_limit { bits ≤ 64 }
     ensures { FindsClear word bits result }
 {
     // A bit of `runs` tells whether `known` bits from it on are clear.

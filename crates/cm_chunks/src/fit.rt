@@ -2,9 +2,9 @@
 
 ghost use Rattle.std.specs.Prelude.{◌≡◌, ◌≢◌, ◌+◌, ◌/◌, ◌<◌, ◌≤◌, ◌↔◌, IfOk, OnOk, IsTrue, List, ℕ};
 ghost use Rattle.cm_words.specs.Memory.{MemSeen, FitsNotes};
-ghost use Rattle.cm_words.specs.Meters.{Goes};
+ghost use Rattle.cm_words.specs.Meters.{ReportsDeath};
 ghost use Rattle.cm_words.specs.Effects.{Reads};
-ghost use Rattle.cm_words.specs.declared.standing.Standing.TheVariants.{Closed};
+ghost use Rattle.cm_words.specs.declared.access.Access.TheVariants.{Closed};
 ghost use Rattle.cm_chunks.specs.Free.{FindsFit, IsFreeRun};
 
 use crate::bits::{bits_between, clear_run_in};
@@ -20,13 +20,13 @@ pub fn first_fit<M: Mem>(
     place: u32,
     chunks: u32,
 ) -> Result<Option<u32>, Dead>
-    requires open { (M.seen mem.old).setting.standing ≢ Closed }
+    requires open { (M.seen mem.old).setting.access ≢ Closed }
     requires geo { (M.seen mem.old).setting.geo ≡ geo.now }
     requires place { place < geo.now.tiers }
-    requires some { 1 ≤ chunks }
-    requires few { chunks ≤ 64 }
+    requires nonzero { 1 ≤ chunks }
+    requires within_limit { chunks ≤ 64 }
     ensures rest { M.same_rest mem.old mem.new }
-    ensures goes { Goes (M.seen mem.old).meter (M.seen mem.new).meter result }
+    ensures fuse { ReportsDeath (M.seen mem.old).meter (M.seen mem.new).meter result }
     ensures count { OnOk result ((M.seen mem.new).meter.events ≤ (M.seen mem.old).meter.events + geo.now.chunks / 64) }
     ensures reads { Reads (M.seen mem.old) (M.seen mem.new) }
     ensures found { IfOk result (λ found. (words : List ℕ) → FitsNotes (M.seen mem.new) words → FindsFit geo.now words place chunks found) }
@@ -56,14 +56,14 @@ pub fn free_after<M: Mem>(
     chunk: u32,
     chunks: u32,
 ) -> Result<bool, Dead>
-    requires open { (M.seen mem.old).setting.standing ≢ Closed }
+    requires open { (M.seen mem.old).setting.access ≢ Closed }
     requires geo { (M.seen mem.old).setting.geo ≡ geo.now }
     requires place { place < geo.now.tiers }
     requires chunk { chunk ≤ geo.now.chunks }
-    requires some { 1 ≤ chunks }
-    requires few { chunks ≤ 64 }
+    requires nonzero { 1 ≤ chunks }
+    requires within_limit { chunks ≤ 64 }
     ensures rest { M.same_rest mem.old mem.new }
-    ensures goes { Goes (M.seen mem.old).meter (M.seen mem.new).meter result }
+    ensures fuse { ReportsDeath (M.seen mem.old).meter (M.seen mem.new).meter result }
     ensures count { OnOk result ((M.seen mem.new).meter.events ≤ (M.seen mem.old).meter.events + 2) }
     ensures reads { Reads (M.seen mem.old) (M.seen mem.new) }
     ensures free { IfOk result (λ free. (words : List ℕ) → FitsNotes (M.seen mem.new) words → (IsTrue free ↔ IsFreeRun geo.now words place chunk chunks)) }

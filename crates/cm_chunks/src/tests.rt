@@ -35,8 +35,8 @@ fn bits_of(words: &Words) -> Option<[u64; 2]> {
 
 fn fit(words: &Words, chunks: u32) -> Result<Option<u32>, Dead>
     requires geo { IsGeoOf words.now.geo 1 1 128 4 0 }
-    requires some { 1 ≤ chunks }
-    requires few { chunks ≤ 64 }
+    requires nonzero { 1 ≤ chunks }
+    requires within_limit { chunks ≤ 64 }
 {
     let mut mem = FixedMem::new(words, 0);
     first_fit(&mut mem, words.geo(), 0, chunks)
@@ -45,8 +45,8 @@ fn fit(words: &Words, chunks: u32) -> Result<Option<u32>, Dead>
 fn is_free(words: &Words, chunk: u32, chunks: u32) -> Result<bool, Dead>
     requires geo { IsGeoOf words.now.geo 1 1 128 4 0 }
     requires chunk { chunk ≤ 128 }
-    requires some { 1 ≤ chunks }
-    requires few { chunks ≤ 64 }
+    requires nonzero { 1 ≤ chunks }
+    requires within_limit { chunks ≤ 64 }
 {
     let mut mem = FixedMem::new(words, 0);
     free_after(&mut mem, words.geo(), 0, chunk, chunks)
@@ -57,8 +57,8 @@ fn is_free(words: &Words, chunk: u32, chunks: u32) -> Result<bool, Dead>
 fn turn<F: Fuse>(words: &mut Words, fuse: F, run: Run, sets: bool) -> Result<(), Dead>
     requires geo { IsGeoOf words.old.geo 1 1 128 4 0 }
     requires place { run.place ≡ 0 }
-    requires some { 1 ≤ run.chunks }
-    requires few { run.chunks ≤ 64 }
+    requires nonzero { 1 ≤ run.chunks }
+    requires within_limit { run.chunks ≤ 64 }
     requires inside { run.chunk + run.chunks ≤ 128 }
 {
     let geo = *words.geo();

@@ -2,13 +2,13 @@
 
 ghost use Rattle.std.specs.Prelude.{◌≡◌, ◌+◌, ◌-◌, ◌/◌, ◌^◌, ◌<◌, ◌≤◌, OnOk, OnErr, length};
 ghost use Rattle.cm_words.specs.Memory.{MemSeen};
-ghost use Rattle.cm_words.specs.Meters.{Goes};
+ghost use Rattle.cm_words.specs.Meters.{ReportsDeath};
 ghost use Rattle.cm_words.specs.Effects.{Reads};
-ghost use Rattle.cm_words.specs.Stores.{MayStoreEach, WritesEach, WritesFrontEach};
-ghost use Rattle.cm_words.specs.declared.standing.Standing.TheVariants.{Writable};
-ghost use Rattle.cm_chunks.specs.Turns.{bits_in, stores_for, stores_to_clear, stores_to_set, touched, turn_at, turned};
+ghost use Rattle.cm_words.specs.Stores.{MayStoreEach, WritesEach, WritesPrefixEach};
+ghost use Rattle.cm_words.specs.declared.access.Access.TheVariants.{Writable};
+ghost use Rattle.cm_chunks.specs.Turns.{bits_in, stores_for, stores_to_clear, stores_to_set, bit_words_of, turn_at, turned_word};
 ghost use Rattle.cm_chunks.specs.Stores.{Rewrites};
-ghost use Rattle.cm_chunks.specs.Runs.{Clears, Sets};
+ghost use Rattle.cm_chunks.specs.RunBits.{Clears, Sets};
 
 use crate::bits::bits_between;
 use cm_geo::Geo;
@@ -24,8 +24,8 @@ pub(crate) enum Turn {
 
 impl Turn {
     /// A word with these bits set or cleared.
-    fn turned(self, word: u64, bits: u64) -> u64
-        ensures { result ≡ turned self word bits }
+    fn turned_word(self, word: u64, bits: u64) -> u64
+        ensures { result ≡ turned_word self word bits }
     {
         match self {
             Turn::Set => word | bits,
@@ -35,7 +35,7 @@ impl Turn {
 }
 
 /// Sets or clears the bits of a run in one bit word, by one load and one store.
-#[tactic(auto, using(crate::proofs::Passing::bits_inner))]
+#[tactic(auto, using(crate::proofs::SearchLoop::bits_inner))]
 fn turn_word<M: Mem>(
     mem: &mut M,
     geo: &Geo,
@@ -44,38 +44,38 @@ fn turn_word<M: Mem>(
     bits: u64,
     turn: Turn,
 ) -> Result<(), Dead>
-    requires writable { (M.seen mem.old).setting.standing ≡ Writable }
+    requires writable { (M.seen mem.old).setting.access ≡ Writable }
     requires geo { (M.seen mem.old).setting.geo ≡ geo.now }
     requires place { run.place < geo.now.tiers }
     requires number { number < geo.now.chunks / 64 }
     requires bits { bits ≡ bits_in run number }
     requires allowed { MayStoreEach (M.seen mem.old) (turn_at turn geo.now run number) }
     ensures rest { M.same_rest mem.old mem.new }
-    ensures goes { Goes (M.seen mem.old).meter (M.seen mem.new).meter result }
+    ensures fuse { ReportsDeath (M.seen mem.old).meter (M.seen mem.new).meter result }
     ensures count { OnOk result (Rewrites (M.seen mem.old).meter (M.seen mem.new).meter 1) }
     ensures stored { OnOk result (WritesEach (M.seen mem.old) (M.seen mem.new) (turn_at turn geo.now run number)) }
     ensures dead { OnErr result (Reads (M.seen mem.old) (M.seen mem.new)) }
 {
     let at = geo.bits_at(run.place, number);
     let word = mem.load(at)?;
-    mem.store(at, turn.turned(word, bits))?;
+    mem.store(at, turn.turned_word(word, bits))?;
     Ok(())
 }
 
 /// Sets or clears the bits of a run, the lower bit word first.
 fn turn_run<M: Mem>(mem: &mut M, geo: &Geo, run: Run, turn: Turn) -> Result<(), Dead>
-    requires writable { (M.seen mem.old).setting.standing ≡ Writable }
+    requires writable { (M.seen mem.old).setting.access ≡ Writable }
     requires geo { (M.seen mem.old).setting.geo ≡ geo.now }
     requires place { run.place < geo.now.tiers }
-    requires some { 1 ≤ run.chunks }
-    requires few { run.chunks ≤ 64 }
+    requires nonzero { 1 ≤ run.chunks }
+    requires within_limit { run.chunks ≤ 64 }
     requires inside { run.chunk + run.chunks ≤ geo.now.chunks }
     requires allowed { MayStoreEach (M.seen mem.old) (stores_for turn geo.now run) }
     ensures rest { M.same_rest mem.old mem.new }
-    ensures goes { Goes (M.seen mem.old).meter (M.seen mem.new).meter result }
-    ensures count { OnOk result (Rewrites (M.seen mem.old).meter (M.seen mem.new).meter (length (touched run))) }
+    ensures fuse { ReportsDeath (M.seen mem.old).meter (M.seen mem.new).meter result }
+    ensures count { OnOk result (Rewrites (M.seen mem.old).meter (M.seen mem.new).meter (length (bit_words_of run))) }
     ensures stored { OnOk result (WritesEach (M.seen mem.old) (M.seen mem.new) (stores_for turn geo.now run)) }
-    ensures dead { OnErr result (WritesFrontEach (M.seen mem.old) (M.seen mem.new) (stores_for turn geo.now run)) }
+    ensures dead { OnErr result (WritesPrefixEach (M.seen mem.old) (M.seen mem.new) (stores_for turn geo.now run)) }
 {
     let number = run.chunk / 64;
     let from = run.chunk % 64;
@@ -91,18 +91,18 @@ fn turn_run<M: Mem>(mem: &mut M, geo: &Geo, run: Run, turn: Turn) -> Result<(), 
 
 /// Sets the bits of a run of 1 to 64 chunks; all other bits stay.
 pub fn set<M: Mem>(mem: &mut M, geo: &Geo, run: Run) -> Result<(), Dead>
-    requires writable { (M.seen mem.old).setting.standing ≡ Writable }
+    requires writable { (M.seen mem.old).setting.access ≡ Writable }
     requires geo { (M.seen mem.old).setting.geo ≡ geo.now }
     requires place { run.place < geo.now.tiers }
-    requires some { 1 ≤ run.chunks }
-    requires few { run.chunks ≤ 64 }
+    requires nonzero { 1 ≤ run.chunks }
+    requires within_limit { run.chunks ≤ 64 }
     requires inside { run.chunk + run.chunks ≤ geo.now.chunks }
     requires allowed { MayStoreEach (M.seen mem.old) (stores_to_set geo.now run) }
     ensures rest { M.same_rest mem.old mem.new }
-    ensures goes { Goes (M.seen mem.old).meter (M.seen mem.new).meter result }
-    ensures count { OnOk result (Rewrites (M.seen mem.old).meter (M.seen mem.new).meter (length (touched run))) }
+    ensures fuse { ReportsDeath (M.seen mem.old).meter (M.seen mem.new).meter result }
+    ensures count { OnOk result (Rewrites (M.seen mem.old).meter (M.seen mem.new).meter (length (bit_words_of run))) }
     ensures set { OnOk result (Sets (M.seen mem.old) (M.seen mem.new) geo.now run) }
-    ensures dead { OnErr result (WritesFrontEach (M.seen mem.old) (M.seen mem.new) (stores_to_set geo.now run)) }
+    ensures dead { OnErr result (WritesPrefixEach (M.seen mem.old) (M.seen mem.new) (stores_to_set geo.now run)) }
 {
     turn_run(mem, geo, run, Turn::Set)?;
     Ok(())
@@ -110,18 +110,18 @@ pub fn set<M: Mem>(mem: &mut M, geo: &Geo, run: Run) -> Result<(), Dead>
 
 /// Clears the bits of a run of 1 to 64 chunks; all other bits stay.
 pub fn clear<M: Mem>(mem: &mut M, geo: &Geo, run: Run) -> Result<(), Dead>
-    requires writable { (M.seen mem.old).setting.standing ≡ Writable }
+    requires writable { (M.seen mem.old).setting.access ≡ Writable }
     requires geo { (M.seen mem.old).setting.geo ≡ geo.now }
     requires place { run.place < geo.now.tiers }
-    requires some { 1 ≤ run.chunks }
-    requires few { run.chunks ≤ 64 }
+    requires nonzero { 1 ≤ run.chunks }
+    requires within_limit { run.chunks ≤ 64 }
     requires inside { run.chunk + run.chunks ≤ geo.now.chunks }
     requires allowed { MayStoreEach (M.seen mem.old) (stores_to_clear geo.now run) }
     ensures rest { M.same_rest mem.old mem.new }
-    ensures goes { Goes (M.seen mem.old).meter (M.seen mem.new).meter result }
-    ensures count { OnOk result (Rewrites (M.seen mem.old).meter (M.seen mem.new).meter (length (touched run))) }
+    ensures fuse { ReportsDeath (M.seen mem.old).meter (M.seen mem.new).meter result }
+    ensures count { OnOk result (Rewrites (M.seen mem.old).meter (M.seen mem.new).meter (length (bit_words_of run))) }
     ensures cleared { OnOk result (Clears (M.seen mem.old) (M.seen mem.new) geo.now run) }
-    ensures dead { OnErr result (WritesFrontEach (M.seen mem.old) (M.seen mem.new) (stores_to_clear geo.now run)) }
+    ensures dead { OnErr result (WritesPrefixEach (M.seen mem.old) (M.seen mem.new) (stores_to_clear geo.now run)) }
 {
     turn_run(mem, geo, run, Turn::Clear)?;
     Ok(())

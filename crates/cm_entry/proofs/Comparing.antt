@@ -8,11 +8,11 @@ use Rattle.std.proofs.Math.Seq.{take-append-add}
 use Rattle.cm_geo.specs.Addresses.{words_in_segment}
 use Rattle.cm_geo.specs.Need.{parts_for}
 use Rattle.cm_words.specs.Memory.{FitsNotes, MemSeen}
-use Rattle.cm_words.specs.Effects.{Reads, Tells}
+use Rattle.cm_words.specs.Effects.{Reads, Knows}
 use Rattle.cm_entry.specs.declared.span.Span.{Span}
-use Rattle.cm_entry.specs.Spans.{bytes_in, bytes_told}
+use Rattle.cm_entry.specs.Spans.{bytes_in, bytes_from}
 use Rattle.cm_entry.specs.Progress.{AreSame}
-use Rattle.cm_entry.proofs.Words.{first_eight, part_begins, told_front, told_len, told_more, told_none}
+use Rattle.cm_entry.proofs.SpanWords.{first_eight, part_begins, prefix_bytes, told_len, told_more, told_none}
 use Rattle.cm_entry.proofs.Summing.{told_word}
 
 pub never : false ≡ true → ⊥
@@ -62,7 +62,7 @@ part_next span bytes part count from to is =
     ∙ (ap (λ (n : ℕ). take n bytes ++ slice_range bytes from to) is.from_is ∙ ap (λ (bs : List ℕ). take (8 * count) bytes ++ bs) (sym is.part_is)))
   where
     up_to : (length bytes < 8 * (count + 1)) ⊎ (8 * (count + 1) ≤ length bytes) → take (8 * (count + 1)) bytes ≡ take to bytes
-    up_to (inl short) = take_all (8 * (count + 1)) bytes (omega (arith, short)) ∙ sym (take_all to bytes (omega (arith, is.from_is, is.to_is, short)))
+    up_to (inl within_limit) = take_all (8 * (count + 1)) bytes (omega (arith, within_limit)) ∙ sym (take_all to bytes (omega (arith, is.from_is, is.to_is, within_limit)))
     up_to (inr long) = ap (λ (n : ℕ). take n bytes) (let h : 8 * (count + 1) ≡ to = omega (arith, is.from_is, is.to_is, long) in h)
 
 -- a word's bytes are those of the part just where they are up to the span's end
@@ -71,12 +71,12 @@ word_part span bytes part count from to word is =
     ap (λ (n : ℕ). take n (to_le_bytes w64 word)) (part_len span bytes part count from to is) ∙ first_eight word (span.len - 8 * count)
 
 -- one word more, which is that of the list
-pub same_more : (a b : MemSeen) (span : Span) (bytes part : List ℕ) (count from to word : ℕ) → AreSame a span bytes count → Reads a b → Tells b (span.at + count) word
+pub same_more : (a b : MemSeen) (span : Span) (bytes part : List ℕ) (count from to word : ℕ) → AreSame a span bytes count → Reads a b → Knows b (span.at + count) word
     → 0 < span.at → span.at + parts_for 8 span.len ≤ words_in_segment b.setting.geo → IsPart span bytes count from to part → take (length part) (to_le_bytes w64 word) ≡ part → AreSame b span bytes (count + 1)
-same_more a b span bytes part count from to word same reads tells behind within is begins words fits =
+same_more a b span bytes part count from to word same reads knows behind within is begins words fits =
     let below = is.below in
-    let here = told_word b span count word behind tells words fits in
-    let inside : span.at + count < length words = omega (arith, fits.are.many) in
+    let here = told_word b span count word behind knows words fits in
+    let inside : span.at + count < length words = omega (arith, fits.are.length_is) in
     told_more words span.at span.len count inside (omega (arith, part_begins span.len count below))
     ∙ (ap (λ (bs : List ℕ). bs ++ take (span.len - 8 * count) (to_le_bytes w64 (get_or words (span.at + count) 0))) (same words (reads.fits words fits))
     ∙ (ap (λ (w : ℕ). take (8 * count) bytes ++ take (span.len - 8 * count) (to_le_bytes w64 w)) here
@@ -84,22 +84,22 @@ same_more a b span bytes part count from to word same reads tells behind within 
     ∙ sym (part_next span bytes part count from to is))))
 
 -- one word that isn't that of the list
-pub differs : (a b : MemSeen) (span : Span) (bytes part : List ℕ) (count from to word : ℕ) → AreSame a span bytes count → Reads a b → Tells b (span.at + count) word
+pub differs : (a b : MemSeen) (span : Span) (bytes part : List ℕ) (count from to word : ℕ) → AreSame a span bytes count → Reads a b → Knows b (span.at + count) word
     → 0 < span.at → span.at + parts_for 8 span.len ≤ words_in_segment b.setting.geo → IsPart span bytes count from to part → (take (length part) (to_le_bytes w64 word) ≡ part → ⊥)
     → (words : List ℕ) → FitsNotes b words → IsTrue false ↔ (bytes_in words span ≡ bytes)
-differs a b span bytes part count from to word same reads tells behind within is other words fits = (λ no. absurd (never no), λ e. absurd (other (begins e)))
+differs a b span bytes part count from to word same reads knows behind within is other words fits = (λ no. absurd (never no), λ e. absurd (other (begins e)))
   where
     begins : bytes_in words span ≡ bytes → take (length part) (to_le_bytes w64 word) ≡ part
     begins e =
         let below = is.below in
         let len_is = is.len_is in
-        let here = told_word b span count word behind tells words fits in
-        let inside : span.at + count < length words = omega (arith, fits.are.many) in
+        let here = told_word b span count word behind knows words fits in
+        let inside : span.at + count < length words = omega (arith, fits.are.length_is) in
         let long : length (take (8 * count) bytes) ≡ 8 * count = length-take-le (8 * count) bytes (omega (arith, part_begins span.len count below)) in
         let told : take (8 * count) bytes ++ take (span.len - 8 * count) (to_le_bytes w64 (get_or words (span.at + count) 0)) ≡ take (8 * count) bytes ++ part =
         ap (λ (bs : List ℕ). bs ++ take (span.len - 8 * count) (to_le_bytes w64 (get_or words (span.at + count) 0))) (sym (same words (reads.fits words fits)))
         ∙ (sym (told_more words span.at span.len count inside (omega (arith, part_begins span.len count below)))
-        ∙ (told_front words span.at span.len (count + 1) (parts_for 8 span.len) (omega arith)
+        ∙ (prefix_bytes words span.at span.len (count + 1) (parts_for 8 span.len) (omega arith)
         ∙ (ap (λ (bs : List ℕ). take (8 * (count + 1)) bs) e ∙ part_next span bytes part count from to is))) in
         word_part span bytes part count from to word is
         ∙ (ap (λ (w : ℕ). take (span.len - 8 * count) (to_le_bytes w64 w)) (sym here)
@@ -110,4 +110,4 @@ differs a b span bytes part count from to word same reads tells behind within is
 pub same_all : (m : MemSeen) (span : Span) (bytes : List ℕ) (count : ℕ) → AreSame m span bytes count → count ≡ parts_for 8 span.len → length bytes ≡ span.len
     → (words : List ℕ) → FitsNotes m words → IsTrue true ↔ (bytes_in words span ≡ bytes)
 same_all m span bytes count same all len_is words fits =
-    (λ _. ap (λ (n : ℕ). bytes_told words span.at span.len n) (sym all) ∙ (same words fits ∙ take_all (8 * count) bytes (omega arith)), λ _. refl)
+    (λ _. ap (λ (n : ℕ). bytes_from words span.at span.len n) (sym all) ∙ (same words fits ∙ take_all (8 * count) bytes (omega arith)), λ _. refl)

@@ -11,18 +11,18 @@ use Rattle.cm_geo.specs.declared.geo.Geo.{Geo}
 use Rattle.cm_geo.specs.Addresses.{chunk_at, words_in_segment}
 use Rattle.cm_geo.specs.Hash.{hash, hash_byte}
 use Rattle.cm_geo.specs.Need.{need, parts_for}
-use Rattle.cm_geo.proofs.InOrder.{chunks_behind_head, run_in_range, tier_behind_head}
+use Rattle.cm_geo.proofs.AddressOrder.{chunks_behind_head, run_in_range, tier_behind_head}
 use Rattle.cm_geo.proofs.Ranges.{chunk_words_range}
-use Rattle.cm_plain.specs.Readings.{bytes_of, checksum, is_filled, key_bytes, key_len, lengths_fit, reading_at, reading_of, value_bytes, value_len}
-use Rattle.cm_plain.proofs.Filling.{bytes_len}
+use Rattle.cm_plain.specs.Readings.{bytes_of, checksum, is_padded, key_bytes, key_len, lengths_fit, reading_at, reading_of, value_bytes, value_len}
+use Rattle.cm_plain.proofs.Padding.{bytes_len}
 use Rattle.cm_words.specs.Memory.{FitsNotes, MemSeen}
-use Rattle.cm_words.specs.Effects.{Reads, Tells}
-use Rattle.cm_entry.specs.declared.sum.Part.{Part}
+use Rattle.cm_words.specs.Effects.{Reads, Knows}
+use Rattle.cm_entry.specs.declared.checksum.Part.{Part}
 use Rattle.cm_entry.specs.declared.verdict.Verdict.{Verdict}
 use Rattle.cm_entry.specs.declared.verdict.Verdict.TheVariants.{Checksum, Good, Lengths, Padding}
-use Rattle.cm_entry.specs.Sums.{AreBoth, IsPartOf, whole_bytes}
+use Rattle.cm_entry.specs.Sums.{IsEntryHash, IsPartOf, whole_bytes}
 use Rattle.cm_entry.specs.Verdicts.{AreFirst, verdict_of}
-use Rattle.cm_entry.proofs.Words.{stretch_len}
+use Rattle.cm_entry.proofs.SpanWords.{stretch_len}
 
 -- what is known of lengths that fit
 pub record AreFit (geo : Geo) (chunk key value : ℕ) : Type 0 where
@@ -41,9 +41,9 @@ are_fit geo chunk head fit = record {
 
 -- so many parts hold what they are for
 parts_hold : (size whole : ℕ) → 0 < size → whole ≤ parts_for size whole * size
-parts_hold size whole some =
+parts_hold size whole nonzero =
     let split : whole + size - 1 ≡ parts_for size whole * size + (whole + size - 1) % size = sym (div-add-mod' (whole + size - 1) size) in
-    omega (arith, split, mod-lt (whole + size - 1) some)
+    omega (arith, split, mod-lt (whole + size - 1) nonzero)
 
 -- the words of an entry whose lengths fit are words of the segment
 pub words_fit : (geo : Geo) (place chunk key value : ℕ) → place < geo.tiers → AreFit geo chunk key value → chunk_at geo place chunk + 2 + parts_for 8 key + parts_for 8 value ≤ words_in_segment geo
@@ -51,29 +51,29 @@ words_fit geo place chunk key value place_below fit =
     omega (arith, run_in_range geo place chunk (need geo key value) place_below fit.inside, parts_hold geo.chunk_words (2 + parts_for 8 key + parts_for 8 value) (omega (arith, chunk_words_range geo)))
 
 -- the key and the value behind it
-pub both_of : (words : List ℕ) (at key value parts start : ℕ) (first second : Part) (filled : Bool) → parts ≡ parts_for 8 key → filled ≡ (first.filled && second.filled) → IsPartOf words at key start first → IsPartOf words (at + parts) value first.state second
-    → AreBoth words at key value start (record { state = second.state; filled = filled })
-both_of words at key value parts start first second filled parts_are both_filled p given =
+pub both_of : (words : List ℕ) (at key value parts start : ℕ) (first second : Part) (padded : Bool) → parts ≡ parts_for 8 key → padded ≡ (first.padded && second.padded) → IsPartOf words at key start first → IsPartOf words (at + parts) value first.state second
+    → IsEntryHash words at key value start (record { state = second.state; padded = padded })
+both_of words at key value parts start first second padded parts_are both_filled p given =
     let q = subst (λ (n : ℕ). IsPartOf words (at + n) value first.state second) parts_are given in
     record {
       state_is = q.state_is ∙ (ap (λ (s : ℕ). fold hash_byte s (whole_bytes words (at + parts_for 8 key) value)) p.state_is
           ∙ sym (fold-append hash_byte start (whole_bytes words at key) (whole_bytes words (at + parts_for 8 key) value)));
-      filled_is = both_filled ∙ rw (p.filled_is, q.filled_is) refl;
+      padded_is = both_filled ∙ rw (p.padded_is, q.padded_is) refl;
     }
 
 -- ---- the verdict
 
-reading_is : (geo : Geo) (words : List ℕ) (place chunk head sum : ℕ) → AreFirst geo words place chunk head sum
-    → reading_at geo words place chunk ≡ reading_of geo chunk head sum (key_bytes geo words place chunk head) (value_bytes geo words place chunk head)
+reading_is : (geo : Geo) (words : List ℕ) (place chunk head stored_checksum : ℕ) → AreFirst geo words place chunk head stored_checksum
+    → reading_at geo words place chunk ≡ reading_of geo chunk head stored_checksum (key_bytes geo words place chunk head) (value_bytes geo words place chunk head)
 unfolding reading_at
-reading_is geo words place chunk head sum has =
+reading_is geo words place chunk head stored_checksum has =
     ap (λ (h : ℕ). reading_of geo chunk h (get_or words (chunk_at geo place chunk + 1) 0) (key_bytes geo words place chunk h) (value_bytes geo words place chunk h)) has.head_is
     ∙ ap (λ (s : ℕ). reading_of geo chunk head s (key_bytes geo words place chunk head) (value_bytes geo words place chunk head)) has.sum_is
 
-pub judged_lengths : (geo : Geo) (words : List ℕ) (place chunk head sum : ℕ) → AreFirst geo words place chunk head sum → lengths_fit geo chunk head ≡ false → Lengths ≡ verdict_of geo (reading_at geo words place chunk)
-judged_lengths geo words place chunk head sum has fails = sym (ap (verdict_of geo) (reading_is geo words place chunk head sum has) ∙ by (key_bytes geo words place chunk head) (value_bytes geo words place chunk head))
+pub judged_lengths : (geo : Geo) (words : List ℕ) (place chunk head stored_checksum : ℕ) → AreFirst geo words place chunk head stored_checksum → lengths_fit geo chunk head ≡ false → Lengths ≡ verdict_of geo (reading_at geo words place chunk)
+judged_lengths geo words place chunk head stored_checksum has fails = sym (ap (verdict_of geo) (reading_is geo words place chunk head stored_checksum has) ∙ by (key_bytes geo words place chunk head) (value_bytes geo words place chunk head))
   where
-    by : (key value : List ℕ) → verdict_of geo (reading_of geo chunk head sum key value) ≡ Lengths
+    by : (key value : List ℕ) → verdict_of geo (reading_of geo chunk head stored_checksum key value) ≡ Lengths
     by key value = rw fails refl
 
 pub not_true : (b : Bool) → not b ≡ true → b ≡ false
@@ -85,25 +85,25 @@ not_false true e = refl
 not_false false e = cc
 
 -- a sum that is another one
-ends_other : (geo : Geo) (chunk head sum : ℕ) (key value : List ℕ) → lengths_fit geo chunk head ≡ true → checksum head key value ≢ sum → verdict_of geo (reading_of geo chunk head sum key value) ≡ Checksum
-ends_other geo chunk head sum key value fit other = let t : (checksum head key value == sum) ≡ false = ne_eqb (checksum head key value) sum other in rw (fit, t) refl
+ends_other : (geo : Geo) (chunk head stored_checksum : ℕ) (key value : List ℕ) → lengths_fit geo chunk head ≡ true → checksum head key value ≢ stored_checksum → verdict_of geo (reading_of geo chunk head stored_checksum key value) ≡ Checksum
+ends_other geo chunk head stored_checksum key value fit other = let t : (checksum head key value == stored_checksum) ≡ false = ne_eqb (checksum head key value) stored_checksum other in rw (fit, t) refl
 
 -- a byte that fills a word isn't zero
-ends_unfilled : (geo : Geo) (chunk head sum : ℕ) (key value : List ℕ) → lengths_fit geo chunk head ≡ true → checksum head key value ≡ sum → (is_filled (key_len head) key && is_filled (value_len head) value) ≡ false
-    → verdict_of geo (reading_of geo chunk head sum key value) ≡ Padding
-ends_unfilled geo chunk head sum key value fit same fails = let t : (checksum head key value == sum) ≡ true = eq-eqb (checksum head key value) sum same in rw (fit, t, fails) refl
+ends_unpadded : (geo : Geo) (chunk head stored_checksum : ℕ) (key value : List ℕ) → lengths_fit geo chunk head ≡ true → checksum head key value ≡ stored_checksum → (is_padded (key_len head) key && is_padded (value_len head) value) ≡ false
+    → verdict_of geo (reading_of geo chunk head stored_checksum key value) ≡ Padding
+ends_unpadded geo chunk head stored_checksum key value fit same fails = let t : (checksum head key value == stored_checksum) ≡ true = eq-eqb (checksum head key value) stored_checksum same in rw (fit, t, fails) refl
 
 -- an entry
-ends_good : (geo : Geo) (chunk head sum : ℕ) (key value : List ℕ) → lengths_fit geo chunk head ≡ true → checksum head key value ≡ sum → (is_filled (key_len head) key && is_filled (value_len head) value) ≡ true
-    → verdict_of geo (reading_of geo chunk head sum key value) ≡ Good (length (take (key_len head) key)) (length (take (value_len head) value)) (need geo (length (take (key_len head) key)) (length (take (value_len head) value)))
-ends_good geo chunk head sum key value fit same holds = let t : (checksum head key value == sum) ≡ true = eq-eqb (checksum head key value) sum same in rw (fit, t, holds) refl
+ends_good : (geo : Geo) (chunk head stored_checksum : ℕ) (key value : List ℕ) → lengths_fit geo chunk head ≡ true → checksum head key value ≡ stored_checksum → (is_padded (key_len head) key && is_padded (value_len head) value) ≡ true
+    → verdict_of geo (reading_of geo chunk head stored_checksum key value) ≡ Good (length (take (key_len head) key)) (length (take (value_len head) value)) (need geo (length (take (key_len head) key)) (length (take (value_len head) value)))
+ends_good geo chunk head stored_checksum key value fit same holds = let t : (checksum head key value == stored_checksum) ≡ true = eq-eqb (checksum head key value) stored_checksum same in rw (fit, t, holds) refl
 
 -- the first word, the key and the value behind it, as the code reads them
-pub record AreRead (geo : Geo) (words : List ℕ) (place chunk head sum start : ℕ) (both : Part) : Type 0 where
-  pub has : AreFirst geo words place chunk head sum
+pub record AreRead (geo : Geo) (words : List ℕ) (place chunk head stored_checksum start : ℕ) (both : Part) : Type 0 where
+  pub has : AreFirst geo words place chunk head stored_checksum
   pub fit : lengths_fit geo chunk head ≡ true
   pub start_is : start ≡ hash (to_le_bytes w64 head)
-  pub are : AreBoth words (chunk_at geo place chunk + 2) (key_len head) (value_len head) start both
+  pub are : IsEntryHash words (chunk_at geo place chunk + 2) (key_len head) (value_len head) start both
 
 -- the hash of the first word's bytes goes on to the checksum
 sum_by : (start head : ℕ) (key value : List ℕ) → start ≡ hash (to_le_bytes w64 head) → fold hash_byte start (key ++ value) ≡ checksum head key value
@@ -113,7 +113,7 @@ sum_by start head key value is =
     ∙ (sym (fold-append hash_byte 0xcbf29ce484222325 (to_le_bytes w64 head) (key ++ value))
     ∙ ap (λ (bs : List ℕ). fold hash_byte 0xcbf29ce484222325 bs) (sym (append_assoc (to_le_bytes w64 head) key value)))
 
-module _ (geo : Geo) (words : List ℕ) (place chunk head sum start : ℕ) (both : Part) (read : AreRead geo words place chunk head sum start both) where
+module _ (geo : Geo) (words : List ℕ) (place chunk head stored_checksum start : ℕ) (both : Part) (read : AreRead geo words place chunk head stored_checksum start both) where
   abbrev first : ℕ
   first = chunk_at geo place chunk + 2
 
@@ -129,35 +129,35 @@ module _ (geo : Geo) (words : List ℕ) (place chunk head sum start : ℕ) (both
       ∙ (ap (λ (k : List ℕ). fold hash_byte start (k ++ value_bytes geo words place chunk head)) key_same
       ∙ sum_by start head (key_bytes geo words place chunk head) (value_bytes geo words place chunk head) read.start_is)
 
-  filled_read : both.filled ≡ (is_filled (key_len head) (key_bytes geo words place chunk head) && is_filled (value_len head) (value_bytes geo words place chunk head))
-  filled_read = read.are.filled_is ∙ ap (λ (k : List ℕ). is_filled (key_len head) k && is_filled (value_len head) (value_bytes geo words place chunk head)) key_same
+  filled_read : both.padded ≡ (is_padded (key_len head) (key_bytes geo words place chunk head) && is_padded (value_len head) (value_bytes geo words place chunk head))
+  filled_read = read.are.padded_is ∙ ap (λ (k : List ℕ). is_padded (key_len head) k && is_padded (value_len head) (value_bytes geo words place chunk head)) key_same
 
-  by_reading : (verdict : Verdict) → verdict_of geo (reading_of geo chunk head sum (key_bytes geo words place chunk head) (value_bytes geo words place chunk head)) ≡ verdict → verdict ≡ verdict_of geo (reading_at geo words place chunk)
-  by_reading verdict e = sym (ap (verdict_of geo) (reading_is geo words place chunk head sum read.has) ∙ e)
+  by_reading : (verdict : Verdict) → verdict_of geo (reading_of geo chunk head stored_checksum (key_bytes geo words place chunk head) (value_bytes geo words place chunk head)) ≡ verdict → verdict ≡ verdict_of geo (reading_at geo words place chunk)
+  by_reading verdict e = sym (ap (verdict_of geo) (reading_is geo words place chunk head stored_checksum read.has) ∙ e)
 
-  pub judged_checksum : both.state ≢ sum → Checksum ≡ verdict_of geo (reading_at geo words place chunk)
-  judged_checksum other = by_reading Checksum (ends_other geo chunk head sum (key_bytes geo words place chunk head) (value_bytes geo words place chunk head) read.fit (λ same. other (sum_read ∙ same)))
+  pub judged_checksum : both.state ≢ stored_checksum → Checksum ≡ verdict_of geo (reading_at geo words place chunk)
+  judged_checksum other = by_reading Checksum (ends_other geo chunk head stored_checksum (key_bytes geo words place chunk head) (value_bytes geo words place chunk head) read.fit (λ same. other (sum_read ∙ same)))
 
-  pub judged_padding : both.state ≡ sum → both.filled ≡ false → Padding ≡ verdict_of geo (reading_at geo words place chunk)
-  judged_padding same unfilled = by_reading Padding (ends_unfilled geo chunk head sum (key_bytes geo words place chunk head) (value_bytes geo words place chunk head) read.fit (sym sum_read ∙ same) (sym filled_read ∙ unfilled))
+  pub judged_padding : both.state ≡ stored_checksum → both.padded ≡ false → Padding ≡ verdict_of geo (reading_at geo words place chunk)
+  judged_padding same unfilled = by_reading Padding (ends_unpadded geo chunk head stored_checksum (key_bytes geo words place chunk head) (value_bytes geo words place chunk head) read.fit (sym sum_read ∙ same) (sym filled_read ∙ unfilled))
 
   pub judged_good : (key value chunks : ℕ) → place < geo.tiers → length words ≡ words_in_segment geo → key ≡ key_len head → value ≡ value_len head → chunks ≡ need geo (key_len head) (value_len head)
-      → both.state ≡ sum → both.filled ≡ true → Good key value chunks ≡ verdict_of geo (reading_at geo words place chunk)
-  judged_good key value chunks place_below long key_is value_is chunks_is same filled =
+      → both.state ≡ stored_checksum → both.padded ≡ true → Good key value chunks ≡ verdict_of geo (reading_at geo words place chunk)
+  judged_good key value chunks place_below long key_is value_is chunks_is same padded =
       let fits = words_fit geo place chunk (key_len head) (value_len head) place_below (are_fit geo chunk head read.fit) in
       let key_long : length (take (key_len head) (key_bytes geo words place chunk head)) ≡ key_len head = length-take-le (key_len head) (key_bytes geo words place chunk head) (reaches (first + 0) (key_len head) (omega (arith, fits, long))) in
       let value_long : length (take (value_len head) (value_bytes geo words place chunk head)) ≡ value_len head =
       length-take-le (value_len head) (value_bytes geo words place chunk head) (reaches (first + parts_for 8 (key_len head)) (value_len head) (omega (arith, fits, long))) in
       by_reading (Good key value chunks)
-      (ends_good geo chunk head sum (key_bytes geo words place chunk head) (value_bytes geo words place chunk head) read.fit (sym sum_read ∙ same) (sym filled_read ∙ filled)
+      (ends_good geo chunk head stored_checksum (key_bytes geo words place chunk head) (value_bytes geo words place chunk head) read.fit (sym sum_read ∙ same) (sym filled_read ∙ padded)
       ∙ (rw (key_long, value_long, key_is, value_is, chunks_is) refl))
     where
       reaches : (at len : ℕ) → at + parts_for 8 len ≤ length words → len ≤ length (bytes_of (take (parts_for 8 len) (drop at words)))
       reaches at len within = omega (arith, bytes_len (take (parts_for 8 len) (drop at words)), stretch_len words at (parts_for 8 len) within)
 
 -- the words that were loaded
-pub first_two : (a b : MemSeen) (geo : Geo) (place chunk at head sum : ℕ) → at ≡ chunk_at geo place chunk → Tells a at head → Reads a b → Tells b (at + 1) sum → (words : List ℕ) → FitsNotes b words → AreFirst geo words place chunk head sum
-first_two a b geo place chunk at head sum at_is first reads second words fits =
+pub first_two : (a b : MemSeen) (geo : Geo) (place chunk at head stored_checksum : ℕ) → at ≡ chunk_at geo place chunk → Knows a at head → Reads a b → Knows b (at + 1) stored_checksum → (words : List ℕ) → FitsNotes b words → AreFirst geo words place chunk head stored_checksum
+first_two a b geo place chunk at head stored_checksum at_is first reads second words fits =
     let behind : 0 < at = omega (arith, at_is, chunks_behind_head geo place chunk, tier_behind_head geo place) in
     record {
       head_is = ap (λ (n : ℕ). get_or words n 0) (sym at_is) ∙ first.here (λ _. behind) words (reads.fits words fits);
@@ -165,9 +165,9 @@ first_two a b geo place chunk at head sum at_is first reads second words fits =
     }
 
 -- what the code reads
-pub read_of : (geo : Geo) (words : List ℕ) (place chunk head sum start at key value : ℕ) (both : Part) → AreFirst geo words place chunk head sum → lengths_fit geo chunk head ≡ true → start ≡ hash (to_le_bytes w64 head) → at ≡ chunk_at geo place chunk
-    → key ≡ key_len head → value ≡ value_len head → AreBoth words (at + 2) key value start both → AreRead geo words place chunk head sum start both
-read_of geo words place chunk head sum start at key value both has fit start_is at_is key_is value_is are = record {
+pub read_of : (geo : Geo) (words : List ℕ) (place chunk head stored_checksum start at key value : ℕ) (both : Part) → AreFirst geo words place chunk head stored_checksum → lengths_fit geo chunk head ≡ true → start ≡ hash (to_le_bytes w64 head) → at ≡ chunk_at geo place chunk
+    → key ≡ key_len head → value ≡ value_len head → IsEntryHash words (at + 2) key value start both → AreRead geo words place chunk head stored_checksum start both
+read_of geo words place chunk head stored_checksum start at key value both has fit start_is at_is key_is value_is are = record {
   has = has;
   fit = fit;
   start_is = start_is;

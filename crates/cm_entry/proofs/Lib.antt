@@ -1,13 +1,13 @@
-pub mod Words
+pub mod SpanWords
 pub mod Summing
 pub mod Comparing
 pub mod Copying
-pub mod Standing
+pub mod EntryAt
 pub mod Judging
 pub mod Reading
 pub mod Verdicts
 pub mod Packing
 pub mod WritingStores
 pub mod WritingEntry
-pub mod WritingMidway
+pub mod PartialWrites
 pub mod Writing

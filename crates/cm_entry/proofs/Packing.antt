@@ -10,8 +10,8 @@ use Rattle.std.proofs.lemmas.List.Concat.{flat_map-append}
 use Rattle.std.proofs.lemmas.List.FromFn.{fill_by_all, length-map-range_with_len, get_or-map-range_with_len}
 use Rattle.cm_geo.specs.Hash.{hash, hash_byte}
 use Rattle.cm_geo.specs.Need.{parts_for}
-use Rattle.cm_plain.specs.Readings.{bytes_of, filled}
-use Rattle.cm_entry.specs.Packing.{hash_on, padded, part_of, word_of, words_of}
+use Rattle.cm_plain.specs.Readings.{bytes_of, padded}
+use Rattle.cm_entry.specs.Packing.{hash_on, padded_word, part_of, word_of, words_of}
 
 -- each of these bytes is below 256
 abbrev pub AreBytes : List ℕ → Type 0
@@ -40,13 +40,13 @@ take_small (suc n) [] small i = none_small i
 take_small (suc n) (byte ∷ bytes) small zero = small zero
 take_small (suc n) (byte ∷ bytes) small (suc i) = take_small n bytes (λ k. small (suc k)) i
 
-padded_len : (bytes : List ℕ) → length bytes ≤ 8 → length (padded bytes) ≡ 8
-padded_len bytes short = length-append bytes (replicate (8 - length bytes) 0) ∙ (ap (λ (n : ℕ). length bytes + n) (length-replicate (8 - length bytes) 0) ∙ omega arith)
+padded_len : (bytes : List ℕ) → length bytes ≤ 8 → length (padded_word bytes) ≡ 8
+padded_len bytes within_limit = length-append bytes (replicate (8 - length bytes) 0) ∙ (ap (λ (n : ℕ). length bytes + n) (length-replicate (8 - length bytes) 0) ∙ omega arith)
 
 -- the bytes of a word are those that it was packed from, filled with zeros
-pub bytes_of_word : (bytes : List ℕ) → length bytes ≤ 8 → AreBytes bytes → to_le_bytes w64 (word_of bytes) ≡ padded bytes
+pub bytes_of_word : (bytes : List ℕ) → length bytes ≤ 8 → AreBytes bytes → to_le_bytes w64 (word_of bytes) ≡ padded_word bytes
 unfolding word_of
-bytes_of_word bytes short small = le_bytes_8 (padded bytes) (from_le_bytes w64 (padded bytes)) (padded_len bytes short) (then_zeros bytes (8 - length bytes) small) refl
+bytes_of_word bytes within_limit small = le_bytes_8 (padded_word bytes) (from_le_bytes w64 (padded_word bytes)) (padded_len bytes within_limit) (then_zeros bytes (8 - length bytes) small) refl
 
 pub words_len : (bytes : List ℕ) → length (words_of bytes) ≡ parts_for 8 (length bytes)
 unfolding words_of
@@ -66,47 +66,47 @@ words_shift bytes n = fill_by_all (λ k. word_of (part_of (drop 8 bytes) k)) (ma
     twice_eight k = omega arith
 
 -- bytes that are filled: the first eight, and then the others filled
-filled_first : (bytes : List ℕ) → 0 < length bytes → filled bytes ≡ padded (take 8 bytes) ++ filled (drop 8 bytes)
-filled_first bytes some = ⊎_elim (short bytes some) (long bytes) (cases_lt (length bytes) 8)
+padded_first : (bytes : List ℕ) → 0 < length bytes → padded bytes ≡ padded_word (take 8 bytes) ++ padded (drop 8 bytes)
+padded_first bytes nonzero = ⊎_elim (within_limit bytes nonzero) (long bytes) (cases_lt (length bytes) 8)
   where
     zeros_same : (m n : ℕ) → m ≡ n → ◌≡◌ {A = List ℕ} (replicate m 0) (replicate n 0)
     zeros_same m n e = ap (λ (k : ℕ). replicate k 0) e
 
-    none_filled : filled [] ≡ []
+    none_filled : padded [] ≡ []
     none_filled = refl
 
     append_none : (xs : List ℕ) → xs ++ [] ≡ xs
     append_none [] = refl
     append_none (x ∷ xs) = ap (λ (ys : List ℕ). x ∷ ys) (append_none xs)
 
-    short : (bytes : List ℕ) → 0 < length bytes → length bytes < 8 → filled bytes ≡ padded (take 8 bytes) ++ filled (drop 8 bytes)
-    short bytes some below =
-        rw (take_all 8 bytes (omega arith), drop_all 8 bytes (omega arith), append_none (padded bytes))
+    within_limit : (bytes : List ℕ) → 0 < length bytes → length bytes < 8 → padded bytes ≡ padded_word (take 8 bytes) ++ padded (drop 8 bytes)
+    within_limit bytes nonzero below =
+        rw (take_all 8 bytes (omega arith), drop_all 8 bytes (omega arith), append_none (padded_word bytes))
         (ap (λ (zeros : List ℕ). bytes ++ zeros) (zeros_same (8 * parts_for 8 (length bytes) - length bytes) (8 - length bytes) (omega arith)))
 
-    long : (bytes : List ℕ) → 8 ≤ length bytes → filled bytes ≡ padded (take 8 bytes) ++ filled (drop 8 bytes)
+    long : (bytes : List ℕ) → 8 ≤ length bytes → padded bytes ≡ padded_word (take 8 bytes) ++ padded (drop 8 bytes)
     long bytes enough =
-        let front : padded (take 8 bytes) ≡ take 8 bytes = ap (λ (zeros : List ℕ). take 8 bytes ++ zeros) (zeros_same (8 - length (take 8 bytes)) 0 (let l = length-take-le 8 bytes enough in omega (arith, l))) ∙ append_none (take 8 bytes) in
+        let front : padded_word (take 8 bytes) ≡ take 8 bytes = ap (λ (zeros : List ℕ). take 8 bytes ++ zeros) (zeros_same (8 - length (take 8 bytes)) 0 (let l = length-take-le 8 bytes enough in omega (arith, l))) ∙ append_none (take 8 bytes) in
         let rest : length (drop 8 bytes) ≡ length bytes - 8 = length-drop 8 bytes in
         let zeros : ◌≡◌ {A = List ℕ} (replicate (8 * parts_for 8 (length bytes) - length bytes) 0) (replicate (8 * parts_for 8 (length (drop 8 bytes)) - length (drop 8 bytes)) 0) = zeros_same _ _ (omega (arith, rest)) in
         ap (λ (zs : List ℕ). bytes ++ zs) zeros
         ∙ (ap (λ (bs : List ℕ). bs ++ replicate (8 * parts_for 8 (length (drop 8 bytes)) - length (drop 8 bytes)) 0) (sym (take-append-drop 8 bytes))
-        ∙ (append_assoc (take 8 bytes) (drop 8 bytes) _ ∙ ap (λ (bs : List ℕ). bs ++ filled (drop 8 bytes)) (sym front)))
+        ∙ (append_assoc (take 8 bytes) (drop 8 bytes) _ ∙ ap (λ (bs : List ℕ). bs ++ padded (drop 8 bytes)) (sym front)))
 
-bytes_of_map : (n : ℕ) (bytes : List ℕ) → parts_for 8 (length bytes) ≡ n → AreBytes bytes → bytes_of (map (λ k. word_of (part_of bytes k)) (range_with_len 0 n)) ≡ filled bytes
+bytes_of_map : (n : ℕ) (bytes : List ℕ) → parts_for 8 (length bytes) ≡ n → AreBytes bytes → bytes_of (map (λ k. word_of (part_of bytes k)) (range_with_len 0 n)) ≡ padded bytes
 bytes_of_map zero [] e small = refl
 bytes_of_map zero (byte ∷ bytes) e small = absurd (omega arith)
 bytes_of_map (suc n) bytes e small =
-    let some : 0 < length bytes = omega arith in
-    let few : length (take 8 bytes) ≤ 8 = grind (arith, common_steps) in
+    let nonzero : 0 < length bytes = omega arith in
+    let within_limit : length (take 8 bytes) ≤ 8 = grind (arith, common_steps) in
     let rest : parts_for 8 (length (drop 8 bytes)) ≡ n = (let l = length-drop 8 bytes in omega (arith, l)) in
     ap (λ (ws : List ℕ). to_le_bytes w64 (word_of (take 8 bytes)) ++ bytes_of ws) (words_shift bytes n)
-    ∙ (ap (λ (bs : List ℕ). bs ++ bytes_of (map (λ k. word_of (part_of (drop 8 bytes) k)) (range_with_len 0 n))) (bytes_of_word (take 8 bytes) few (take_small 8 bytes small))
-    ∙ (ap (λ (bs : List ℕ). padded (take 8 bytes) ++ bs) (bytes_of_map n (drop 8 bytes) rest (drop_small 8 bytes small))
-    ∙ sym (filled_first bytes some)))
+    ∙ (ap (λ (bs : List ℕ). bs ++ bytes_of (map (λ k. word_of (part_of (drop 8 bytes) k)) (range_with_len 0 n))) (bytes_of_word (take 8 bytes) within_limit (take_small 8 bytes small))
+    ∙ (ap (λ (bs : List ℕ). padded_word (take 8 bytes) ++ bs) (bytes_of_map n (drop 8 bytes) rest (drop_small 8 bytes small))
+    ∙ sym (padded_first bytes nonzero)))
 
 -- the bytes of words that were packed
-pub bytes_of_words : (bytes : List ℕ) → AreBytes bytes → bytes_of (words_of bytes) ≡ filled bytes
+pub bytes_of_words : (bytes : List ℕ) → AreBytes bytes → bytes_of (words_of bytes) ≡ padded bytes
 unfolding words_of
 bytes_of_words bytes small = bytes_of_map (parts_for 8 (length bytes)) bytes refl small
 
@@ -146,7 +146,7 @@ hash_on_more bytes number state now hashed inside so_far next =
     ∙ (sym (hash_on_append (bytes_of (take number (words_of bytes))) (to_le_bytes w64 word) state) ∙ ap (λ (bs : List ℕ). hash_on state bs) (sym split))))
 
 -- a hash over all words
-pub hash_on_all : (bytes : List ℕ) (number state hashed : ℕ) → AreBytes bytes → parts_for 8 (length bytes) ≤ number → hashed ≡ hash_on state (bytes_of (take number (words_of bytes))) → hashed ≡ hash_on state (filled bytes)
+pub hash_on_all : (bytes : List ℕ) (number state hashed : ℕ) → AreBytes bytes → parts_for 8 (length bytes) ≤ number → hashed ≡ hash_on state (bytes_of (take number (words_of bytes))) → hashed ≡ hash_on state (padded bytes)
 hash_on_all bytes number state hashed small all so_far =
     let long : length (words_of bytes) ≤ number = rw (words_len bytes) all in
     so_far ∙ (ap (λ (ws : List ℕ). hash_on state (bytes_of ws)) (take_all number (words_of bytes) long) ∙ ap (λ (bs : List ℕ). hash_on state bs) (bytes_of_words bytes small))

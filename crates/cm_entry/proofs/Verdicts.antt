@@ -4,7 +4,7 @@ use Rattle.cm_geo.specs.declared.geo.Geo.{Geo}
 use Rattle.cm_geo.specs.Need.{need}
 use Rattle.cm_plain.specs.declared.reply.Pair.{Pair}
 use Rattle.cm_plain.specs.Readings.{Reading}
-use Rattle.cm_plain.specs.Readings.{entry, wrong_checksum, wrong_filling, wrong_lengths}
+use Rattle.cm_plain.specs.Readings.{entry, wrong_checksum, wrong_padding, wrong_lengths}
 use Rattle.cm_entry.specs.declared.verdict.Verdict.{Verdict}
 use Rattle.cm_entry.specs.declared.verdict.Verdict.TheVariants.{Good}
 use Rattle.cm_entry.specs.Verdicts.{verdict_of}
@@ -21,7 +21,7 @@ pub record IsEntry (geo : Geo) (reading : Reading) (key_len value_len chunks : �
 pub good_stands : (geo : Geo) (reading : Reading) (key_len value_len chunks : ℕ) → Good key_len value_len chunks ≡ verdict_of geo reading → IsEntry geo reading key_len value_len chunks
 good_stands geo wrong_lengths key_len value_len chunks e = cc
 good_stands geo wrong_checksum key_len value_len chunks e = cc
-good_stands geo wrong_filling key_len value_len chunks e = cc
+good_stands geo wrong_padding key_len value_len chunks e = cc
 good_stands geo (entry pair) key_len value_len chunks e = record { pair = pair; stands = refl; key_len_is = cc; value_len_is = cc; chunks_is = cc }
 
 -- where an entry stands, the verdict is good

@@ -6,16 +6,16 @@ use Rattle.std.proofs.lemmas.Bool.Decides.{eqb_tells}
 use Rattle.cm_geo.specs.declared.geo.Geo.{Geo}
 use Rattle.cm_geo.specs.Addresses.{chunk_at, words_in_segment}
 use Rattle.cm_geo.specs.Hash.{hash}
-use Rattle.cm_geo.proofs.InOrder.{chunks_behind_head}
+use Rattle.cm_geo.proofs.AddressOrder.{chunks_behind_head}
 use Rattle.cm_geo.specs.Need.{parts_for}
-use Rattle.cm_plain.specs.Readings.{filled, head_of}
+use Rattle.cm_plain.specs.Readings.{padded, head_of}
 use Rattle.cm_words.specs.Memory.{FitsNotes, MayStore, MemSeen, Setting, origin}
-use Rattle.cm_words.specs.Effects.{AllowsAll, Keeps, MayStoreAll, Reads, Tells, Writes, WritesFront, after_stores}
-use Rattle.cm_words.specs.Stores.{MayStoreEach, WritesEach, WritesFrontEach}
-use Rattle.cm_words.proofs.Fits.{after_stores_on, front_some, keeps_on, may_store_after, writes_on}
-use Rattle.cm_words.proofs.Storing.{allows_at, front_behind, front_each_behind, front_first, may_back, may_back_each, may_front, may_front_each, may_one}
+use Rattle.cm_words.specs.Effects.{AllowsAll, Keeps, MayStoreAll, Reads, Knows, Writes, WritesPrefix, after_stores}
+use Rattle.cm_words.specs.Stores.{MayStoreEach, WritesEach, WritesPrefixEach}
+use Rattle.cm_words.proofs.FittingLists.{after_stores_on, prefix_some, keeps_transitive, may_store_after, writes_append}
+use Rattle.cm_words.proofs.StoreLists.{allows_at, prefix_behind, prefix_each_behind, prefix_first, may_back, may_back_each, may_prefix, may_prefix_each, may_one}
 use Rattle.cm_entry.specs.Packing.{hash_on, part_of, word_of, words_of}
-use Rattle.cm_entry.specs.Writing.{HasEntry, Replaces, entry_stores, head_stores, replacing_stores, stores_from, sum_of, value_stores}
+use Rattle.cm_entry.specs.Writing.{HasEntry, Replaces, entry_stores, head_stores, replacing_stores, stores_from, entry_checksum, value_stores}
 use Rattle.cm_entry.proofs.Packing.{AreBytes, hash_append, word_in_words, words_len}
 use Rattle.cm_entry.proofs.WritingStores.{stores_more, stores_split}
 use Rattle.cm_entry.proofs.WritingEntry.{IsRoom, entry_stored, inside_run, value_replaced, words_stand}
@@ -41,7 +41,7 @@ writes_next old mid now at number word bytes inside word_is so_far next =
     let is : word ≡ get_or (words_of bytes) number 0 = word_is ∙ sym (word_in_words bytes number inside) in
     let next' : Writes mid now ((at + number, get_or (words_of bytes) number 0) ∷ []) = subst (λ (w : ℕ). Writes mid now ((at + number, w) ∷ [])) is next in
     subst (λ (stores : List (ℕ × ℕ)). Writes old now stores) (sym (stores_more at number (words_of bytes) there))
-    (writes_on old mid now (stores_from at (take number (words_of bytes))) ((at + number, get_or (words_of bytes) number 0) ∷ []) so_far next')
+    (writes_append old mid now (stores_from at (take number (words_of bytes))) ((at + number, get_or (words_of bytes) number 0) ∷ []) so_far next')
 
 -- all were made
 pub writes_all : (old now : MemSeen) (at number : ℕ) (bytes : List ℕ) → parts_for 8 (length bytes) ≤ number → Writes old now (stores_from at (take number (words_of bytes))) → Writes old now (stores_from at (words_of bytes))
@@ -50,22 +50,22 @@ writes_all old now at number bytes all so_far =
     subst (λ (words : List ℕ). Writes old now (stores_from at words)) (take_all number (words_of bytes) long) so_far
 
 -- the next one was not made
-pub front_next : (old mid now : MemSeen) (at number : ℕ) (bytes : List ℕ) → number < parts_for 8 (length bytes)
-    → Writes old mid (stores_from at (take number (words_of bytes))) → Reads mid now → WritesFront old now (stores_from at (words_of bytes))
-front_next old mid now at number bytes inside so_far reads =
+pub prefix_next : (old mid now : MemSeen) (at number : ℕ) (bytes : List ℕ) → number < parts_for 8 (length bytes)
+    → Writes old mid (stores_from at (take number (words_of bytes))) → Reads mid now → WritesPrefix old now (stores_from at (words_of bytes))
+prefix_next old mid now at number bytes inside so_far reads =
     let there : number < length (words_of bytes) = rw (words_len bytes) inside in
-    subst (λ (stores : List (ℕ × ℕ)). WritesFront old now stores) (sym (stores_split at number (words_of bytes) there))
-    (front_some old mid now (stores_from at (take number (words_of bytes))) ((at + number, get_or (words_of bytes) number 0) ∷ stores_from (at + number + 1) (drop (number + 1) (words_of bytes))) so_far reads)
+    subst (λ (stores : List (ℕ × ℕ)). WritesPrefix old now stores) (sym (stores_split at number (words_of bytes) there))
+    (prefix_some old mid now (stores_from at (take number (words_of bytes))) ((at + number, get_or (words_of bytes) number 0) ∷ stores_from (at + number + 1) (drop (number + 1) (words_of bytes))) so_far reads)
 
 -- ---- the first word
 
-here_is : (m : MemSeen) (at word : ℕ) (words : List ℕ) → 1 < at → Tells m at word → FitsNotes m words → get_or words at 0 ≡ word
-here_is m at word words behind tells fits = tells.here (λ shared. omega arith) words fits
+here_is : (m : MemSeen) (at word : ℕ) (words : List ℕ) → 1 < at → Knows m at word → FitsNotes m words → get_or words at 0 ≡ word
+here_is m at word words behind knows fits = knows.here (λ shared. omega arith) words fits
 
 -- the first word differs, and may be stored
-pub may_store_head : (old now : MemSeen) (at head stood : ℕ) → 1 < at → Reads old now → Tells now at stood → stood ≢ head → MayStoreEach old (head_stores at head) → MayStore now at head
-may_store_head old now at head stood behind reads tells differ may words fits =
-    let here = here_is now at stood words behind tells fits in
+pub may_store_head : (old now : MemSeen) (at head stood : ℕ) → 1 < at → Reads old now → Knows now at stood → stood ≢ head → MayStoreEach old (head_stores at head) → MayStore now at head
+may_store_head old now at head stood behind reads knows differ may words fits =
+    let here = here_is now at stood words behind knows fits in
     elim (eqb_tells (get_or words at 0) head) [
       | inl same ↦ absurd (differ (sym here ∙ same.1))
       | inr other ↦ (
@@ -74,14 +74,14 @@ may_store_head old now at head stood behind reads tells differ may words fits =
     ]
 
 -- it stands there, and was not stored
-pub head_stays : (old now : MemSeen) (at head stood : ℕ) → 1 < at → Reads old now → Tells now at stood → stood ≡ head → WritesEach old now (head_stores at head)
-head_stays old now at head stood behind reads tells same = record {
+pub head_stays : (old now : MemSeen) (at head stood : ℕ) → 1 < at → Reads old now → Knows now at stood → stood ≡ head → WritesEach old now (head_stores at head)
+head_stays old now at head stood behind reads knows same = record {
   kept = reads.kept;
   came = λ words fits. (
     words,
     record {
       fits = reads.fits words fits;
-      leads = still words (here_is now at stood words behind tells fits ∙ same);
+      leads = still words (here_is now at stood words behind knows fits ∙ same);
       origin = reads.origin words fits;
     },
   );
@@ -95,15 +95,15 @@ head_stays old now at head stood behind reads tells same = record {
     ]
 
 -- it differed, and was stored
-pub head_stored : (old mid now : MemSeen) (at head stood : ℕ) → 1 < at → Reads old mid → Tells mid at stood → stood ≢ head → Writes mid now ((at, head) ∷ []) → WritesEach old now (head_stores at head)
-head_stored old mid now at head stood behind reads tells differ writes = record {
-  kept = keeps_on old mid now reads.kept writes.kept;
+pub head_stored : (old mid now : MemSeen) (at head stood : ℕ) → 1 < at → Reads old mid → Knows mid at stood → stood ≢ head → Writes mid now ((at, head) ∷ []) → WritesEach old now (head_stores at head)
+head_stored old mid now at head stood behind reads knows differ writes = record {
+  kept = keeps_transitive old mid now reads.kept writes.kept;
   came = λ words fits.
       let far = writes.came words fits in (
         far.0,
         record {
           fits = reads.fits far.0 far.1.fits;
-          leads = stored far.0 words (λ same. differ (sym (here_is mid at stood far.0 behind tells far.1.fits) ∙ same)) far.1.leads;
+          leads = stored far.0 words (λ same. differ (sym (here_is mid at stood far.0 behind knows far.1.fits) ∙ same)) far.1.leads;
           origin = far.1.origin ∙ reads.origin far.0 far.1.fits;
         },
       );
@@ -119,16 +119,16 @@ head_stored old mid now at head stood behind reads tells differ writes = record 
 -- ---- the checksum
 
 -- a hash over the value, behind one over the first word and the key, is the checksum
-pub sum_is : (key value : List ℕ) (so_far sum : ℕ) → so_far ≡ hash (to_le_bytes w64 (head_of key value) ++ filled key) → sum ≡ hash_on so_far (filled value) → sum ≡ sum_of key value
-unfolding sum_of
-sum_is key value so_far sum e f =
-    f ∙ (ap (λ (h : ℕ). hash_on h (filled value)) e ∙ (hash_append (to_le_bytes w64 (head_of key value) ++ filled key) (filled value)
-    ∙ ap hash (append_assoc (to_le_bytes w64 (head_of key value)) (filled key) (filled value))))
+pub sum_is : (key value : List ℕ) (so_far stored_checksum : ℕ) → so_far ≡ hash (to_le_bytes w64 (head_of key value) ++ padded key) → stored_checksum ≡ hash_on so_far (padded value) → stored_checksum ≡ entry_checksum key value
+unfolding entry_checksum
+sum_is key value so_far stored_checksum e f =
+    f ∙ (ap (λ (h : ℕ). hash_on h (padded value)) e ∙ (hash_append (to_le_bytes w64 (head_of key value) ++ padded key) (padded value)
+    ∙ ap hash (append_assoc (to_le_bytes w64 (head_of key value)) (padded key) (padded value))))
 
 -- and one over the key behind one over the first word
-pub so_far_is : (key value : List ℕ) (head over_head over_key : ℕ) → head ≡ head_of key value → over_head ≡ hash (to_le_bytes w64 head) → over_key ≡ hash_on over_head (filled key) → over_key ≡ hash (to_le_bytes w64 (head_of key value) ++ filled key)
+pub so_far_is : (key value : List ℕ) (head over_head over_key : ℕ) → head ≡ head_of key value → over_head ≡ hash (to_le_bytes w64 head) → over_key ≡ hash_on over_head (padded key) → over_key ≡ hash (to_le_bytes w64 (head_of key value) ++ padded key)
 so_far_is key value head over_head over_key e f h =
-    h ∙ (ap (λ (s : ℕ). hash_on s (filled key)) (f ∙ ap (λ (n : ℕ). hash (to_le_bytes w64 n)) e) ∙ hash_append (to_le_bytes w64 (head_of key value)) (filled key))
+    h ∙ (ap (λ (s : ℕ). hash_on s (padded key)) (f ∙ ap (λ (n : ℕ). hash (to_le_bytes w64 n)) e) ∙ hash_append (to_le_bytes w64 (head_of key value)) (padded key))
 
 -- ---- what stands then
 
@@ -137,8 +137,8 @@ pub entry_stands : (old now : MemSeen) (geo : Geo) (place chunk : ℕ) (key valu
     → Writes old now (entry_stores (chunk_at geo place chunk) key value) → (words : List ℕ) → FitsNotes now words → HasEntry geo words place chunk key value
 entry_stands old now geo place chunk key value geo_is key_small value_small room writes words fits =
     let came = writes.came words fits in
-    let many : length came.0 ≡ words_in_segment geo = came.1.fits.are.many ∙ ap words_in_segment geo_is in
-    let inside : chunk_at geo place chunk + 2 + parts_for 8 (length key) + parts_for 8 (length value) ≤ length came.0 = rw many (inside_run geo place chunk (length key) (length value) room.place_low room.run) in
+    let length_is : length came.0 ≡ words_in_segment geo = came.1.fits.are.length_is ∙ ap words_in_segment geo_is in
+    let inside : chunk_at geo place chunk + 2 + parts_for 8 (length key) + parts_for 8 (length value) ≤ length came.0 = rw length_is (inside_run geo place chunk (length key) (length value) room.place_low room.run) in
     subst (λ (w : List ℕ). HasEntry geo w place chunk key value) came.1.leads
     (words_stand geo (after_stores came.0 (entry_stores (chunk_at geo place chunk) key value)) place chunk key value room (entry_stored came.0 (chunk_at geo place chunk) key value key_small value_small inside))
 
@@ -147,19 +147,19 @@ pub value_stands : (old mid now : MemSeen) (geo : Geo) (place chunk : ℕ) (key 
     → WritesEach old mid (head_stores (chunk_at geo place chunk) (head_of key value)) → Writes mid now (value_stores (chunk_at geo place chunk) key value) → Replaces old now geo place chunk key value
 unfolding replacing_stores
 value_stands old mid now geo place chunk key value geo_is small room heads writes = record {
-  kept = keeps_on old mid now heads.kept writes.kept;
+  kept = keeps_transitive old mid now heads.kept writes.kept;
   came = λ words fits.
       let far = writes.came words fits in
       let first = heads.came far.0 far.1.fits in
       let at : ℕ = chunk_at geo place chunk in
       let leads : after_stores first.0 (head_stores at (head_of key value) first.0 ++ value_stores at key value) ≡ words
       = after_stores_on first.0 (head_stores at (head_of key value) first.0) (value_stores at key value) ∙ (ap (λ (w : List ℕ). after_stores w (value_stores at key value)) first.1.leads ∙ far.1.leads) in
-      let many : length first.0 ≡ words_in_segment geo = first.1.fits.are.many ∙ ap words_in_segment geo_is in (
+      let length_is : length first.0 ≡ words_in_segment geo = first.1.fits.are.length_is ∙ ap words_in_segment geo_is in (
         first.0,
         record {
           by = record { fits = first.1.fits; leads = leads; origin = far.1.origin ∙ first.1.origin };
           stands = λ has. subst (λ (w : List ℕ). HasEntry geo w place chunk key value) leads
-              (words_stand geo _ place chunk key value room (value_replaced geo first.0 place chunk key value small room many has));
+              (words_stand geo _ place chunk key value room (value_replaced geo first.0 place chunk key value small room length_is has));
         },
       );
   noted = λ k h. writes.noted k (heads.noted k h);
@@ -186,32 +186,32 @@ geo_kept old now geo e kept = ap (λ (s : Setting). s.geo) kept.setting ∙ e
 pub may_value_words : (m : MemSeen) (at from : ℕ) (key value : List ℕ) → from ≡ at + 2 + parts_for 8 (length key) → MayStoreAll m (value_stores at key value) → MayStoreAll m (stores_from from (words_of value))
 unfolding value_stores
 may_value_words m at from key value e may =
-    subst (λ (n : ℕ). MayStoreAll m (stores_from n (words_of value))) (sym e) (may_front m (stores_from (at + 2 + parts_for 8 (length key)) (words_of value)) ((at + 1, sum_of key value) ∷ []) may)
+    subst (λ (n : ℕ). MayStoreAll m (stores_from n (words_of value))) (sym e) (may_prefix m (stores_from (at + 2 + parts_for 8 (length key)) (words_of value)) ((at + 1, entry_checksum key value) ∷ []) may)
 
-pub front_value_words : (a b : MemSeen) (at from : ℕ) (key value : List ℕ) → from ≡ at + 2 + parts_for 8 (length key) → WritesFront a b (stores_from from (words_of value)) → WritesFront a b (value_stores at key value)
+pub prefix_value_words : (a b : MemSeen) (at from : ℕ) (key value : List ℕ) → from ≡ at + 2 + parts_for 8 (length key) → WritesPrefix a b (stores_from from (words_of value)) → WritesPrefix a b (value_stores at key value)
 unfolding value_stores
-front_value_words a b at from key value e front =
-    front_first a b (stores_from (at + 2 + parts_for 8 (length key)) (words_of value)) ((at + 1, sum_of key value) ∷ []) (subst (λ (n : ℕ). WritesFront a b (stores_from n (words_of value))) e front)
+prefix_value_words a b at from key value e front =
+    prefix_first a b (stores_from (at + 2 + parts_for 8 (length key)) (words_of value)) ((at + 1, entry_checksum key value) ∷ []) (subst (λ (n : ℕ). WritesPrefix a b (stores_from n (words_of value))) e front)
 
 -- and the checksum behind them
-pub may_sum : (a b : MemSeen) (at from sum : ℕ) (key value : List ℕ) → from ≡ at + 2 + parts_for 8 (length key) → sum ≡ sum_of key value
-    → MayStoreAll a (value_stores at key value) → Writes a b (stores_from from (words_of value)) → MayStore b (at + 1) sum
+pub may_sum : (a b : MemSeen) (at from stored_checksum : ℕ) (key value : List ℕ) → from ≡ at + 2 + parts_for 8 (length key) → stored_checksum ≡ entry_checksum key value
+    → MayStoreAll a (value_stores at key value) → Writes a b (stores_from from (words_of value)) → MayStore b (at + 1) stored_checksum
 unfolding value_stores
-may_sum a b at from sum key value e sum_is' may writes =
+may_sum a b at from stored_checksum key value e sum_is' may writes =
     let writes' : Writes a b (stores_from (at + 2 + parts_for 8 (length key)) (words_of value)) = subst (λ (n : ℕ). Writes a b (stores_from n (words_of value))) e writes in
     subst (λ (s : ℕ). MayStore b (at + 1) s) (sym sum_is')
-    (may_one b (at + 1) (sum_of key value) (may_back a b (stores_from (at + 2 + parts_for 8 (length key)) (words_of value)) ((at + 1, sum_of key value) ∷ []) may writes'))
+    (may_one b (at + 1) (entry_checksum key value) (may_back a b (stores_from (at + 2 + parts_for 8 (length key)) (words_of value)) ((at + 1, entry_checksum key value) ∷ []) may writes'))
 
-pub front_sum : (a b c : MemSeen) (at from : ℕ) (key value : List ℕ) → from ≡ at + 2 + parts_for 8 (length key) → Writes a b (stores_from from (words_of value)) → Reads b c → WritesFront a c (value_stores at key value)
+pub prefix_checksum : (a b c : MemSeen) (at from : ℕ) (key value : List ℕ) → from ≡ at + 2 + parts_for 8 (length key) → Writes a b (stores_from from (words_of value)) → Reads b c → WritesPrefix a c (value_stores at key value)
 unfolding value_stores
-front_sum a b c at from key value e writes reads =
-    front_some a b c (stores_from (at + 2 + parts_for 8 (length key)) (words_of value)) ((at + 1, sum_of key value) ∷ []) (subst (λ (n : ℕ). Writes a b (stores_from n (words_of value))) e writes) reads
+prefix_checksum a b c at from key value e writes reads =
+    prefix_some a b c (stores_from (at + 2 + parts_for 8 (length key)) (words_of value)) ((at + 1, entry_checksum key value) ∷ []) (subst (λ (n : ℕ). Writes a b (stores_from n (words_of value))) e writes) reads
 
-pub writes_value : (a b c : MemSeen) (at from sum : ℕ) (key value : List ℕ) → from ≡ at + 2 + parts_for 8 (length key) → sum ≡ sum_of key value
-    → Writes a b (stores_from from (words_of value)) → Writes b c ((at + 1, sum) ∷ []) → Writes a c (value_stores at key value)
+pub writes_value : (a b c : MemSeen) (at from stored_checksum : ℕ) (key value : List ℕ) → from ≡ at + 2 + parts_for 8 (length key) → stored_checksum ≡ entry_checksum key value
+    → Writes a b (stores_from from (words_of value)) → Writes b c ((at + 1, stored_checksum) ∷ []) → Writes a c (value_stores at key value)
 unfolding value_stores
-writes_value a b c at from sum key value e sum_is' writes last =
-    writes_on a b c (stores_from (at + 2 + parts_for 8 (length key)) (words_of value)) ((at + 1, sum_of key value) ∷ [])
+writes_value a b c at from stored_checksum key value e sum_is' writes last =
+    writes_append a b c (stores_from (at + 2 + parts_for 8 (length key)) (words_of value)) ((at + 1, entry_checksum key value) ∷ [])
     (subst (λ (n : ℕ). Writes a b (stores_from n (words_of value))) e writes) (subst (λ (s : ℕ). Writes b c ((at + 1, s) ∷ [])) sum_is' last)
 
 -- ---- the parts of the stores of an entry
@@ -222,7 +222,7 @@ behind_head at key value = stores_from (at + 2) (words_of key) ++ value_stores a
 
 pub may_first : (m : MemSeen) (at head : ℕ) (key value : List ℕ) → head ≡ head_of key value → MayStoreAll m (entry_stores at key value) → MayStore m at head
 unfolding entry_stores
-may_first m at head key value e may = subst (λ (n : ℕ). MayStore m at n) (sym e) (may_one m at (head_of key value) (may_front m ((at, head_of key value) ∷ []) (behind_head at key value) may))
+may_first m at head key value e may = subst (λ (n : ℕ). MayStore m at n) (sym e) (may_one m at (head_of key value) (may_prefix m ((at, head_of key value) ∷ []) (behind_head at key value) may))
 
 behind_first : (a b : MemSeen) (at head : ℕ) (key value : List ℕ) → head ≡ head_of key value → MayStoreAll a (entry_stores at key value) → Writes a b ((at, head) ∷ []) → MayStoreAll b (behind_head at key value)
 unfolding entry_stores
@@ -230,39 +230,39 @@ behind_first a b at head key value e may first =
     may_back a b ((at, head_of key value) ∷ []) (behind_head at key value) may (subst (λ (n : ℕ). Writes a b ((at, n) ∷ [])) e first)
 
 pub may_key_words : (a b : MemSeen) (at head : ℕ) (key value : List ℕ) → head ≡ head_of key value → MayStoreAll a (entry_stores at key value) → Writes a b ((at, head) ∷ []) → MayStoreAll b (stores_from (at + 2) (words_of key))
-may_key_words a b at head key value e may first = may_front b (stores_from (at + 2) (words_of key)) (value_stores at key value) (behind_first a b at head key value e may first)
+may_key_words a b at head key value e may first = may_prefix b (stores_from (at + 2) (words_of key)) (value_stores at key value) (behind_first a b at head key value e may first)
 
 pub may_value : (a b c : MemSeen) (at head : ℕ) (key value : List ℕ) → head ≡ head_of key value → MayStoreAll a (entry_stores at key value) → Writes a b ((at, head) ∷ []) → Writes b c (stores_from (at + 2) (words_of key)) → MayStoreAll c (value_stores at key value)
 may_value a b c at head key value e may first writes = may_back b c (stores_from (at + 2) (words_of key)) (value_stores at key value) (behind_first a b at head key value e may first) writes
 
 -- the first word was stored, and some of the others
-front_entry : (a b c : MemSeen) (at head : ℕ) (key value : List ℕ) → head ≡ head_of key value → Writes a b ((at, head) ∷ []) → WritesFront b c (behind_head at key value) → WritesFront a c (entry_stores at key value)
+prefix_entry : (a b c : MemSeen) (at head : ℕ) (key value : List ℕ) → head ≡ head_of key value → Writes a b ((at, head) ∷ []) → WritesPrefix b c (behind_head at key value) → WritesPrefix a c (entry_stores at key value)
 unfolding entry_stores
-front_entry a b c at head key value e first front = front_behind a b c ((at, head_of key value) ∷ []) (behind_head at key value) (subst (λ (n : ℕ). Writes a b ((at, n) ∷ [])) e first) front
+prefix_entry a b c at head key value e first front = prefix_behind a b c ((at, head_of key value) ∷ []) (behind_head at key value) (subst (λ (n : ℕ). Writes a b ((at, n) ∷ [])) e first) front
 
-pub front_key_words : (a b c : MemSeen) (at head : ℕ) (key value : List ℕ) → head ≡ head_of key value → Writes a b ((at, head) ∷ []) → WritesFront b c (stores_from (at + 2) (words_of key)) → WritesFront a c (entry_stores at key value)
-front_key_words a b c at head key value e first front = front_entry a b c at head key value e first (front_first b c (stores_from (at + 2) (words_of key)) (value_stores at key value) front)
+pub prefix_key_words : (a b c : MemSeen) (at head : ℕ) (key value : List ℕ) → head ≡ head_of key value → Writes a b ((at, head) ∷ []) → WritesPrefix b c (stores_from (at + 2) (words_of key)) → WritesPrefix a c (entry_stores at key value)
+prefix_key_words a b c at head key value e first front = prefix_entry a b c at head key value e first (prefix_first b c (stores_from (at + 2) (words_of key)) (value_stores at key value) front)
 
-pub front_value : (a b c d : MemSeen) (at head : ℕ) (key value : List ℕ) → head ≡ head_of key value → Writes a b ((at, head) ∷ []) → Writes b c (stores_from (at + 2) (words_of key)) → WritesFront c d (value_stores at key value) → WritesFront a d (entry_stores at key value)
-front_value a b c d at head key value e first writes front = front_entry a b d at head key value e first (front_behind b c d (stores_from (at + 2) (words_of key)) (value_stores at key value) writes front)
+pub prefix_value : (a b c d : MemSeen) (at head : ℕ) (key value : List ℕ) → head ≡ head_of key value → Writes a b ((at, head) ∷ []) → Writes b c (stores_from (at + 2) (words_of key)) → WritesPrefix c d (value_stores at key value) → WritesPrefix a d (entry_stores at key value)
+prefix_value a b c d at head key value e first writes front = prefix_entry a b d at head key value e first (prefix_behind b c d (stores_from (at + 2) (words_of key)) (value_stores at key value) writes front)
 
 pub writes_entry : (a b c d : MemSeen) (at head : ℕ) (key value : List ℕ) → head ≡ head_of key value → Writes a b ((at, head) ∷ []) → Writes b c (stores_from (at + 2) (words_of key)) → Writes c d (value_stores at key value) → Writes a d (entry_stores at key value)
 unfolding entry_stores
 writes_entry a b c d at head key value e first writes last =
-    writes_on a b d ((at, head_of key value) ∷ []) (behind_head at key value) (subst (λ (n : ℕ). Writes a b ((at, n) ∷ [])) e first) (writes_on b c d (stores_from (at + 2) (words_of key)) (value_stores at key value) writes last)
+    writes_append a b d ((at, head_of key value) ∷ []) (behind_head at key value) (subst (λ (n : ℕ). Writes a b ((at, n) ∷ [])) e first) (writes_append b c d (stores_from (at + 2) (words_of key)) (value_stores at key value) writes last)
 
 -- ---- the parts of the stores of another value
 
 pub may_head : (m : MemSeen) (at head : ℕ) (key value : List ℕ) → head ≡ head_of key value → MayStoreEach m (replacing_stores at key value) → MayStoreEach m (head_stores at head)
 unfolding replacing_stores
-may_head m at head key value e may = subst (λ (n : ℕ). MayStoreEach m (head_stores at n)) (sym e) (may_front_each m (head_stores at (head_of key value)) (value_stores at key value) may)
+may_head m at head key value e may = subst (λ (n : ℕ). MayStoreEach m (head_stores at n)) (sym e) (may_prefix_each m (head_stores at (head_of key value)) (value_stores at key value) may)
 
 pub may_value_each : (a b : MemSeen) (at head : ℕ) (key value : List ℕ) → head ≡ head_of key value → MayStoreEach a (replacing_stores at key value) → WritesEach a b (head_stores at head) → MayStoreAll b (value_stores at key value)
 unfolding replacing_stores
 may_value_each a b at head key value e may heads =
     may_back_each a b (head_stores at (head_of key value)) (value_stores at key value) may (subst (λ (n : ℕ). WritesEach a b (head_stores at n)) e heads)
 
-pub front_replaced : (a b c : MemSeen) (at head : ℕ) (key value : List ℕ) → head ≡ head_of key value → WritesEach a b (head_stores at head) → WritesFront b c (value_stores at key value) → WritesFrontEach a c (replacing_stores at key value)
+pub prefix_replaced : (a b c : MemSeen) (at head : ℕ) (key value : List ℕ) → head ≡ head_of key value → WritesEach a b (head_stores at head) → WritesPrefix b c (value_stores at key value) → WritesPrefixEach a c (replacing_stores at key value)
 unfolding replacing_stores
-front_replaced a b c at head key value e heads front =
-    front_each_behind a b c (head_stores at (head_of key value)) (value_stores at key value) (subst (λ (n : ℕ). WritesEach a b (head_stores at n)) e heads) front
+prefix_replaced a b c at head key value e heads front =
+    prefix_each_behind a b c (head_stores at (head_of key value)) (value_stores at key value) (subst (λ (n : ℕ). WritesEach a b (head_stores at n)) e heads) front

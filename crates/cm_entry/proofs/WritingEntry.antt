@@ -7,15 +7,15 @@ use Rattle.std.proofs.lemmas.List.{drop_at, take_at, length-drop, length-take-le
 use Rattle.cm_geo.specs.declared.geo.Geo.{Geo}
 use Rattle.cm_geo.specs.Addresses.{chunk_at, words_in_segment}
 use Rattle.cm_geo.specs.Need.{Fits, need, parts_for}
-use Rattle.cm_geo.proofs.InOrder.{run_in_range}
+use Rattle.cm_geo.proofs.AddressOrder.{run_in_range}
 use Rattle.cm_geo.proofs.Ranges.{chunk_words_range}
-use Rattle.cm_plain.specs.Readings.{bytes_at, bytes_of, checksum, entry, filled, head_of, is_filled, key_bytes, key_len, lengths_fit, reading_at, reading_of, value_bytes, value_len}
-use Rattle.cm_plain.proofs.Filling.{IsRead, bytes_len, filled_is, is_read, whole_words}
-use Rattle.cm_plain.proofs.Resting.{words_within}
+use Rattle.cm_plain.specs.Readings.{bytes_at, bytes_of, checksum, entry, padded, head_of, is_padded, key_bytes, key_len, lengths_fit, reading_at, reading_of, value_bytes, value_len}
+use Rattle.cm_plain.proofs.Padding.{IsRead, bytes_len, padded_is, is_read, whole_words}
+use Rattle.cm_plain.proofs.RestingTorn.{words_within}
 use Rattle.cm_words.specs.Effects.{after_stores}
-use Rattle.cm_words.proofs.Fits.{after_stores_on}
+use Rattle.cm_words.proofs.FittingLists.{after_stores_on}
 use Rattle.cm_entry.specs.Packing.{words_of}
-use Rattle.cm_entry.specs.Writing.{HasEntry, HasKey, entry_stores, head_stores, replacing_stores, stores_from, sum_of, value_stores}
+use Rattle.cm_entry.specs.Writing.{HasEntry, HasKey, entry_stores, head_stores, replacing_stores, stores_from, entry_checksum, value_stores}
 use Rattle.cm_entry.proofs.Packing.{AreBytes, bytes_of_words, words_len}
 use Rattle.cm_entry.proofs.WritingStores.{after_here, after_len, after_other, part_is, part_same}
 
@@ -29,9 +29,9 @@ pub record IsRoom (geo : Geo) (place chunk : ℕ) (key value : List ℕ) : Type 
 pub inside_run : (geo : Geo) (place chunk key_len value_len : ℕ) → place < geo.tiers → chunk + need geo key_len value_len ≤ geo.chunks
     → chunk_at geo place chunk + 2 + parts_for 8 key_len + parts_for 8 value_len ≤ words_in_segment geo
 inside_run geo place chunk key_len value_len low run =
-    let some : 1 ≤ geo.chunk_words = omega (arith, (chunk_words_range geo).0) in
+    let nonzero : 1 ≤ geo.chunk_words = omega (arith, (chunk_words_range geo).0) in
     let range = run_in_range geo place chunk (need geo key_len value_len) low run in
-    let enough = words_within (2 + parts_for 8 key_len + parts_for 8 value_len) geo.chunk_words some in
+    let enough = words_within (2 + parts_for 8 key_len + parts_for 8 value_len) geo.chunk_words nonzero in
     by_size (chunk_at geo place chunk) (parts_for 8 key_len) (parts_for 8 value_len) (need geo key_len value_len) geo.chunk_words (words_in_segment geo) enough range
   where
     by_size : (at pk pv parts size range : ℕ) → 2 + pk + pv ≤ parts * size → at + parts * size ≤ range → at + 2 + pk + pv ≤ range
@@ -41,17 +41,17 @@ zeros_all : (n : ℕ) → list_all (λ byte. byte == 0) (replicate n 0) ≡ true
 zeros_all zero = refl
 zeros_all (suc n) = zeros_all n
 
-filled_all : (bytes : List ℕ) → is_filled (length bytes) (filled bytes) ≡ true
-filled_all bytes = ap (λ (rest : List ℕ). list_all (λ byte. byte == 0) rest) (drop_at bytes (replicate (8 * parts_for 8 (length bytes) - length bytes) 0) (length bytes) refl) ∙ zeros_all (8 * parts_for 8 (length bytes) - length bytes)
+padded_all : (bytes : List ℕ) → is_padded (length bytes) (padded bytes) ≡ true
+padded_all bytes = ap (λ (rest : List ℕ). list_all (λ byte. byte == 0) rest) (drop_at bytes (replicate (8 * parts_for 8 (length bytes) - length bytes) 0) (length bytes) refl) ∙ zeros_all (8 * parts_for 8 (length bytes) - length bytes)
 
-filled_front : (bytes : List ℕ) → take (length bytes) (filled bytes) ≡ bytes
-filled_front bytes = take_at bytes (replicate (8 * parts_for 8 (length bytes) - length bytes) 0) (length bytes) refl
+padded_prefix : (bytes : List ℕ) → take (length bytes) (padded bytes) ≡ bytes
+padded_prefix bytes = take_at bytes (replicate (8 * parts_for 8 (length bytes) - length bytes) 0) (length bytes) refl
 
 key_len_is : (k v : ℕ) → k ≤ 256 → (k + 2 ^ 32 * v) % 2 ^ 32 ≡ k
-key_len_is k v short = omega arith
+key_len_is k v within_limit = omega arith
 
 value_len_is : (k v : ℕ) → k ≤ 256 → (k + 2 ^ 32 * v) / 2 ^ 32 ≡ v
-value_len_is k v short = omega arith
+value_len_is k v within_limit = omega arith
 
 same_eqb : (n : ℕ) → (n == n) ≡ true
 same_eqb n = grind (arith, nat_tests)
@@ -64,27 +64,27 @@ lengths_are geo chunk k v fits run head e e' = rw (e, e') (by_tests k v (need ge
     by_tests k v n chunk chunks a b c d e = grind (arith, nat_tests, common_steps)
 
 -- an entry is read from its words
-pub reading_entry : (geo : Geo) (chunk : ℕ) (key value : List ℕ) (head sum : ℕ) (key_words value_words : List ℕ) → Fits geo (length key) (length value) → chunk + need geo (length key) (length value) ≤ geo.chunks
-    → head ≡ head_of key value → sum ≡ sum_of key value → key_words ≡ filled key → value_words ≡ filled value
-    → reading_of geo chunk head sum key_words value_words ≡ entry (record { key = key; value = value })
-unfolding sum_of
-reading_entry geo chunk key value head sum key_words value_words fits run head_is sum_is key_is value_is =
+pub reading_entry : (geo : Geo) (chunk : ℕ) (key value : List ℕ) (head stored_checksum : ℕ) (key_words value_words : List ℕ) → Fits geo (length key) (length value) → chunk + need geo (length key) (length value) ≤ geo.chunks
+    → head ≡ head_of key value → stored_checksum ≡ entry_checksum key value → key_words ≡ padded key → value_words ≡ padded value
+    → reading_of geo chunk head stored_checksum key_words value_words ≡ entry (record { key = key; value = value })
+unfolding entry_checksum
+reading_entry geo chunk key value head stored_checksum key_words value_words fits run head_is sum_is key_is value_is =
     let k : key_len head ≡ length key = ap key_len head_is ∙ key_len_is (length key) (length value) fits.key_short in
     let v : value_len head ≡ length value = ap value_len head_is ∙ value_len_is (length key) (length value) fits.key_short in
     let lengths : lengths_fit geo chunk head ≡ true = lengths_are geo chunk (length key) (length value) fits run head k v in
-    let summed : (checksum head key_words value_words == sum) ≡ true = rw (head_is, sum_is, key_is, value_is) (same_eqb (checksum (head_of key value) (filled key) (filled value))) in
-    let key_full : is_filled (key_len head) key_words ≡ true = rw (k, key_is) (filled_all key) in
-    let value_full : is_filled (value_len head) value_words ≡ true = rw (v, value_is) (filled_all value) in
-    let key_front : take (key_len head) key_words ≡ key = rw (k, key_is) (filled_front key) in
-    let value_front : take (value_len head) value_words ≡ value = rw (v, value_is) (filled_front value) in
+    let summed : (checksum head key_words value_words == stored_checksum) ≡ true = rw (head_is, sum_is, key_is, value_is) (same_eqb (checksum (head_of key value) (padded key) (padded value))) in
+    let key_full : is_padded (key_len head) key_words ≡ true = rw (k, key_is) (padded_all key) in
+    let value_full : is_padded (value_len head) value_words ≡ true = rw (v, value_is) (padded_all value) in
+    let key_front : take (key_len head) key_words ≡ key = rw (k, key_is) (padded_prefix key) in
+    let value_front : take (value_len head) value_words ≡ value = rw (v, value_is) (padded_prefix value) in
     rw (lengths, summed, key_full, value_full, key_front, value_front) refl
 
 -- the words of an entry stand from an address on
 pub record EntryWords (words : List ℕ) (at : ℕ) (key value : List ℕ) : Type 0 where
   pub head : get_or words at 0 ≡ head_of key value
-  pub sum : get_or words (at + 1) 0 ≡ sum_of key value
-  pub key_words : bytes_of (take (parts_for 8 (length key)) (drop (at + 2) words)) ≡ filled key
-  pub value_words : bytes_of (take (parts_for 8 (length value)) (drop (at + 2 + parts_for 8 (length key)) words)) ≡ filled value
+  pub stored_checksum : get_or words (at + 1) 0 ≡ entry_checksum key value
+  pub key_words : bytes_of (take (parts_for 8 (length key)) (drop (at + 2) words)) ≡ padded key
+  pub value_words : bytes_of (take (parts_for 8 (length value)) (drop (at + 2 + parts_for 8 (length key)) words)) ≡ padded value
 
 -- so the entry does
 pub words_stand : (geo : Geo) (words : List ℕ) (place chunk : ℕ) (key value : List ℕ) → IsRoom geo place chunk key value → EntryWords words (chunk_at geo place chunk) key value → HasEntry geo words place chunk key value
@@ -94,7 +94,7 @@ words_stand geo words place chunk key value room stored =
     let k : key_len (get_or words at 0) ≡ length key = ap key_len stored.head ∙ key_len_is (length key) (length value) room.fits.key_short in
     let v : value_len (get_or words at 0) ≡ length value = ap value_len stored.head ∙ value_len_is (length key) (length value) room.fits.key_short in
     reading_entry geo chunk key value (get_or words at 0) (get_or words (at + 1) 0) (key_bytes geo words place chunk (get_or words at 0)) (value_bytes geo words place chunk (get_or words at 0)) room.fits room.run
-    stored.head stored.sum
+    stored.head stored.stored_checksum
     (ap (λ (n : ℕ). bytes_at geo words place chunk 0 (parts_for 8 n)) k ∙ (ap (λ (a : ℕ). bytes_of (take (parts_for 8 (length key)) (drop a words))) (nothing (at + 2)) ∙ stored.key_words))
     (ap (λ (n : ℕ). bytes_at geo words place chunk (parts_for 8 n) (parts_for 8 (value_len (get_or words at 0)))) k ∙ (ap (λ (n : ℕ). bytes_at geo words place chunk (parts_for 8 (length key)) (parts_for 8 n)) v ∙ stored.value_words))
   where
@@ -103,7 +103,7 @@ words_stand geo words place chunk key value room stored =
 
 -- the stores of a value, where the first word and the key's words stand
 pub value_stored : (words : List ℕ) (at : ℕ) (key value : List ℕ) → AreBytes value → at + 2 + parts_for 8 (length key) + parts_for 8 (length value) ≤ length words
-    → get_or words at 0 ≡ head_of key value → bytes_of (take (parts_for 8 (length key)) (drop (at + 2) words)) ≡ filled key → EntryWords (after_stores words (value_stores at key value)) at key value
+    → get_or words at 0 ≡ head_of key value → bytes_of (take (parts_for 8 (length key)) (drop (at + 2) words)) ≡ padded key → EntryWords (after_stores words (value_stores at key value)) at key value
 unfolding value_stores
 value_stored words at key value small room head_is key_is =
     let pk : ℕ = parts_for 8 (length key) in
@@ -112,19 +112,19 @@ value_stored words at key value small room head_is key_is =
     let mid : List ℕ = after_stores words (stores_from from (words_of value)) in
     let long : length mid ≡ length words = after_len words (stores_from from (words_of value)) in
     let count : length (words_of value) ≡ pv = words_len value in
-    let end : after_stores words (value_stores at key value) ≡ slice_set mid (at + 1) (sum_of key value) = after_stores_on words (stores_from from (words_of value)) ((at + 1, sum_of key value) ∷ []) in
-    let all : List ℕ = slice_set mid (at + 1) (sum_of key value) in
-    let all_long : length all ≡ length words = length-set mid (at + 1) (sum_of key value) ∙ long in
+    let end : after_stores words (value_stores at key value) ≡ slice_set mid (at + 1) (entry_checksum key value) = after_stores_on words (stores_from from (words_of value)) ((at + 1, entry_checksum key value) ∷ []) in
+    let all : List ℕ = slice_set mid (at + 1) (entry_checksum key value) in
+    let all_long : length all ≡ length words = length-set mid (at + 1) (entry_checksum key value) ∙ long in
     let there : at + 1 < length mid = room_for at pk pv (length words) (length mid) long room in
-    let head_kept : get_or all at 0 ≡ get_or words at 0 = get_or-set_other mid (at + 1) at (sum_of key value) 0 (one_off at) ∙ after_other words from (words_of value) at (inl (below at pk)) in
+    let head_kept : get_or all at 0 ≡ get_or words at 0 = get_or-set_other mid (at + 1) at (entry_checksum key value) 0 (one_off at) ∙ after_other words from (words_of value) at (inl (below at pk)) in
     let key_kept : (j : ℕ) → j < pk → get_or all (at + 2 + j) 0 ≡ get_or words (at + 2 + j) 0
-    = λ j inside. get_or-set_other mid (at + 1) (at + 2 + j) (sum_of key value) 0 (behind at j) ∙ after_other words from (words_of value) (at + 2 + j) (inl (before at pk j inside)) in
+    = λ j inside. get_or-set_other mid (at + 1) (at + 2 + j) (entry_checksum key value) 0 (behind at j) ∙ after_other words from (words_of value) (at + 2 + j) (inl (before at pk j inside)) in
     let value_here : (j : ℕ) → j < pv → get_or all (from + j) 0 ≡ get_or (words_of value) j 0
-    = λ j inside. get_or-set_other mid (at + 1) (from + j) (sum_of key value) 0 (behind_key at pk j)
+    = λ j inside. get_or-set_other mid (at + 1) (from + j) (entry_checksum key value) 0 (behind_key at pk j)
     ∙ after_here words from (words_of value) j (rw count room) (rw count inside) in
     let stand : EntryWords all at key value = record {
       head = head_kept ∙ head_is;
-      sum = get_or-set_same mid (at + 1) (sum_of key value) 0 there;
+      stored_checksum = get_or-set_same mid (at + 1) (entry_checksum key value) 0 there;
       key_words = ap bytes_of (part_same all words (at + 2) pk (within at pk pv (length words) (length all) all_long room) (within at pk pv (length words) (length words) refl room) key_kept) ∙ key_is;
       value_words = ap bytes_of (part_is all (words_of value) from pv count (rw all_long room) value_here) ∙ bytes_of_words value small;
     } in
@@ -182,8 +182,8 @@ entry_stored words at key value key_small value_small room =
 
 -- an entry that stands at a chunk has its words there
 pub stood : (geo : Geo) (words : List ℕ) (place chunk : ℕ) (key value : List ℕ) → length words ≡ words_in_segment geo → place < geo.tiers → HasEntry geo words place chunk key value → EntryWords words (chunk_at geo place chunk) key value
-unfolding reading_at sum_of
-stood geo words place chunk key value many low has =
+unfolding reading_at entry_checksum
+stood geo words place chunk key value length_is low has =
     let at : ℕ = chunk_at geo place chunk in
     let head : ℕ = get_or words at 0 in
     let key_is : List ℕ = key_bytes geo words place chunk head in
@@ -194,18 +194,18 @@ stood geo words place chunk key value many low has =
     let pv : ℕ = parts_for 8 (value_len head) in
     let run : chunk + need geo (key_len head) (value_len head) ≤ geo.chunks = run_of (key_len head) (value_len head) (need geo (key_len head) (value_len head)) chunk geo.chunks read.fit in
     let room = inside_run geo place chunk (key_len head) (value_len head) low run in
-    let key_room : pk ≤ length (drop (at + 2 + 0) words) = key_by at pk pv (words_in_segment geo) (length words) (length (drop (at + 2 + 0) words)) many (length-drop (at + 2 + 0) words) room in
-    let value_room : pv ≤ length (drop (at + 2 + pk) words) = value_by at pk pv (words_in_segment geo) (length words) (length (drop (at + 2 + pk) words)) many (length-drop (at + 2 + pk) words) room in
+    let key_room : pk ≤ length (drop (at + 2 + 0) words) = key_by at pk pv (words_in_segment geo) (length words) (length (drop (at + 2 + 0) words)) length_is (length-drop (at + 2 + 0) words) room in
+    let value_room : pv ≤ length (drop (at + 2 + pk) words) = value_by at pk pv (words_in_segment geo) (length words) (length (drop (at + 2 + pk) words)) length_is (length-drop (at + 2 + pk) words) room in
     let key_size : length key_is ≡ 8 * pk = bytes_len (take pk (drop (at + 2 + 0) words)) ∙ ap (λ (n : ℕ). 8 * n) (length-take-le pk (drop (at + 2 + 0) words) key_room) in
     let value_size : length value_is ≡ 8 * pv = bytes_len (take pv (drop (at + 2 + pk) words)) ∙ ap (λ (n : ℕ). 8 * n) (length-take-le pv (drop (at + 2 + pk) words) value_room) in
-    let key_full : key_is ≡ filled key = filled_is (key_len head) key_is key_size read.key_filled ∙ ap filled (sym read.key_is) in
-    let value_full : value_is ≡ filled value = filled_is (value_len head) value_is value_size read.value_filled ∙ ap filled (sym read.value_is) in
+    let key_full : key_is ≡ padded key = padded_is (key_len head) key_is key_size read.key_filled ∙ ap padded (sym read.key_is) in
+    let value_full : value_is ≡ padded value = padded_is (value_len head) value_is value_size read.value_filled ∙ ap padded (sym read.value_is) in
     let key_length : length key ≡ key_len head = ap (λ (l : List ℕ). length l) read.key_is ∙ length-take-le (key_len head) key_is (whole_words (key_len head) (length key_is) key_size) in
     let value_length : length value ≡ value_len head = ap (λ (l : List ℕ). length l) read.value_is ∙ length-take-le (value_len head) value_is (whole_words (value_len head) (length value_is) value_size) in
     let head_is : head ≡ head_of key value = halves head (length key) (length value) key_length value_length in
     record {
       head = head_is;
-      sum = sym read.sum_is ∙ same_sum head (head_of key value) key_is (filled key) value_is (filled value) head_is key_full value_full;
+      stored_checksum = sym read.sum_is ∙ same_sum head (head_of key value) key_is (padded key) value_is (padded value) head_is key_full value_full;
       key_words = ap (λ (n : ℕ). bytes_of (take (parts_for 8 n) (drop (at + 2) words))) key_length ∙ (ap (λ (a : ℕ). bytes_of (take pk (drop a words))) (nothing (at + 2)) ∙ key_full);
       value_words = ap (λ (n : ℕ). bytes_of (take (parts_for 8 (length value)) (drop (at + 2 + parts_for 8 n) words))) key_length
           ∙ (ap (λ (n : ℕ). bytes_of (take (parts_for 8 n) (drop (at + 2 + pk) words))) value_length ∙ value_full);
@@ -233,21 +233,21 @@ stood geo words place chunk key value many low has =
 pub value_replaced : (geo : Geo) (words : List ℕ) (place chunk : ℕ) (key value : List ℕ) → AreBytes value → IsRoom geo place chunk key value → length words ≡ words_in_segment geo → HasKey geo words place chunk key
     → EntryWords (after_stores words (replacing_stores (chunk_at geo place chunk) key value words)) (chunk_at geo place chunk) key value
 unfolding replacing_stores
-value_replaced geo words place chunk key value small room many has =
+value_replaced geo words place chunk key value small room length_is has =
     let at : ℕ = chunk_at geo place chunk in
     let head : ℕ = head_of key value in
     let inside = inside_run geo place chunk (length key) (length value) room.place_low room.run in
-    let key_is = (stood geo words place chunk key has.0 many room.place_low has.1).key_words in
+    let key_is = (stood geo words place chunk key has.0 length_is room.place_low has.1).key_words in
     let pk : ℕ = parts_for 8 (length key) in
     let pv : ℕ = parts_for 8 (length value) in
     rw (after_stores_on words (head_stores at head words) (value_stores at key value))
     (elim (eqb_tells (get_or words at 0) head) [
-      | inl same ↦ rw same.0 (value_stored words at key value small (rw many inside) same.1 key_is)
+      | inl same ↦ rw same.0 (value_stored words at key value small (rw length_is inside) same.1 key_is)
       | inr other ↦ rw other.0 (value_stored (slice_set words at head) at key value small
-          (rw (length-set words at head, many) inside)
-          (get_or-set_same words at head 0 (room_for at pk pv (words_in_segment geo) (length words) many inside))
-          (ap bytes_of (part_same (slice_set words at head) words (at + 2) pk (within at pk pv (words_in_segment geo) (length (slice_set words at head)) (length-set words at head ∙ many) inside)
-          (within at pk pv (words_in_segment geo) (length words) many inside) (λ j h. get_or-set_other words at (at + 2 + j) head 0 (behind at j))) ∙ key_is))
+          (rw (length-set words at head, length_is) inside)
+          (get_or-set_same words at head 0 (room_for at pk pv (words_in_segment geo) (length words) length_is inside))
+          (ap bytes_of (part_same (slice_set words at head) words (at + 2) pk (within at pk pv (words_in_segment geo) (length (slice_set words at head)) (length-set words at head ∙ length_is) inside)
+          (within at pk pv (words_in_segment geo) (length words) length_is inside) (λ j h. get_or-set_other words at (at + 2 + j) head 0 (behind at j))) ∙ key_is))
     ])
   where
     room_for : (at pk pv n m : ℕ) → m ≡ n → at + 2 + pk + pv ≤ n → at < m

@@ -6,12 +6,12 @@ use Rattle.cm_geo.specs.Hash.{hash_byte}
 use Rattle.cm_geo.specs.Need.{parts_for}
 
 -- at most 8 bytes, and zeros behind them
-abbrev pub padded : List ℕ → List ℕ
-padded bytes = bytes ++ replicate (8 - length bytes) 0
+abbrev pub padded_word : List ℕ → List ℕ
+padded_word bytes = bytes ++ replicate (8 - length bytes) 0
 
 -- the word of at most 8 bytes, the first one lowest
 unfoldable pub word_of : List ℕ → ℕ
-word_of bytes = from_le_bytes w64 (padded bytes)
+word_of bytes = from_le_bytes w64 (padded_word bytes)
 
 -- the bytes of one word among those of others
 abbrev pub part_of : List ℕ → ℕ → List ℕ

@@ -7,17 +7,17 @@ use Rattle.cm_plain.specs.Readings.{bytes_of, key_len, value_len}
 use Rattle.cm_entry.specs.declared.span.Span.{Span}
 
 -- the bytes of so many words from a place on, up to a length
-unfoldable pub bytes_told : List ℕ → ℕ → ℕ → ℕ → List ℕ
-bytes_told words at len count = take len (bytes_of (take count (drop at words)))
+unfoldable pub bytes_from : List ℕ → ℕ → ℕ → ℕ → List ℕ
+bytes_from words at len count = take len (bytes_of (take count (drop at words)))
 
 -- the bytes of a span: those of its words, up to its length
 abbrev pub bytes_in : List ℕ → Span → List ℕ
-bytes_in words span = bytes_told words span.at span.len (parts_for 8 span.len)
+bytes_in words span = bytes_from words span.at span.len (parts_for 8 span.len)
 
 -- the words of a span are words of the segment, and not its first one
 pub record IsInside (geo : Geo) (span : Span) : Type 0 where
-  pub behind : 0 < span.at
-  pub short : span.len ≤ 4096
+  pub not_first : 0 < span.at
+  pub within_limit : span.len ≤ 4096
   pub inside : span.at + parts_for 8 span.len ≤ words_in_segment geo
 
 -- these bytes stand in a span, and are all of it

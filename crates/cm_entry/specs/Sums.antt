@@ -4,11 +4,11 @@ use Rattle.std.specs.List.{list_all}
 use Rattle.std.specs.Int.{to_le_bytes, w64}
 use Rattle.cm_geo.specs.Hash.{hash_byte}
 use Rattle.cm_geo.specs.Need.{parts_for}
-use Rattle.cm_plain.specs.Readings.{bytes_of, is_filled}
+use Rattle.cm_plain.specs.Readings.{bytes_of, is_padded}
 use Rattle.cm_plain.specs.Slots.{word_at}
 use Rattle.cm_entry.specs.declared.span.Span.{Span}
-use Rattle.cm_entry.specs.declared.sum.Part.{Part}
-use Rattle.cm_entry.specs.declared.sum.Summed.{Summed}
+use Rattle.cm_entry.specs.declared.checksum.Part.{Part}
+use Rattle.cm_entry.specs.declared.checksum.Summed.{Summed}
 use Rattle.cm_entry.specs.Spans.{bytes_in}
 
 -- the hash went on from a state over the bytes of a span, and this is the span's last word
@@ -17,8 +17,8 @@ pub record IsSumOf (words : List ℕ) (span : Span) (start : ℕ) (sum : Summed)
   pub last_is : 0 < span.len → sum.last ≡ word_at words (span.at + parts_for 8 span.len - 1)
 
 -- the bytes of the last word, behind so many bytes in all, are zero
-abbrev pub is_last_filled : ℕ → ℕ → Bool
-is_last_filled len last = (len % 8 == 0) || list_all (λ byte. byte == 0) (drop (len % 8) (to_le_bytes w64 last))
+abbrev pub is_last_padded : ℕ → ℕ → Bool
+is_last_padded len last = (len % 8 == 0) || list_all (λ byte. byte == 0) (drop (len % 8) (to_le_bytes w64 last))
 
 -- the bytes of the words of so many bytes from a place on
 abbrev pub whole_bytes : List ℕ → ℕ → ℕ → List ℕ
@@ -27,9 +27,9 @@ whole_bytes words at len = bytes_of (take (parts_for 8 len) (drop at words))
 -- the hash went on over the whole words of so many bytes, and this tells whether the last one is filled with zeros
 pub record IsPartOf (words : List ℕ) (at len start : ℕ) (part : Part) : Type 0 where
   pub state_is : part.state ≡ fold hash_byte start (whole_bytes words at len)
-  pub filled_is : part.filled ≡ is_filled len (whole_bytes words at len)
+  pub padded_is : part.padded ≡ is_padded len (whole_bytes words at len)
 
 -- the hash went on over the words of a key and of the value behind it, and this tells whether the last word of each is filled with zeros
-pub record AreBoth (words : List ℕ) (at key_len value_len start : ℕ) (both : Part) : Type 0 where
+pub record IsEntryHash (words : List ℕ) (at key_len value_len start : ℕ) (both : Part) : Type 0 where
   pub state_is : both.state ≡ fold hash_byte start (whole_bytes words at key_len ++ whole_bytes words (at + parts_for 8 key_len) value_len)
-  pub filled_is : both.filled ≡ (is_filled key_len (whole_bytes words at key_len) && is_filled value_len (whole_bytes words (at + parts_for 8 key_len) value_len))
+  pub padded_is : both.padded ≡ (is_padded key_len (whole_bytes words at key_len) && is_padded value_len (whole_bytes words (at + parts_for 8 key_len) value_len))

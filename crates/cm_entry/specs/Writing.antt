@@ -4,7 +4,7 @@ use Rattle.cm_geo.specs.declared.geo.Geo.{Geo}
 use Rattle.cm_geo.specs.Addresses.{chunk_at}
 use Rattle.cm_geo.specs.Need.{parts_for}
 use Rattle.cm_plain.specs.Slots.{word_at}
-use Rattle.cm_plain.specs.Readings.{checksum, entry, filled, head_of, reading_at}
+use Rattle.cm_plain.specs.Readings.{checksum, entry, padded, head_of, reading_at}
 use Rattle.cm_words.specs.Memory.{FitsNotes, MemSeen}
 use Rattle.cm_words.specs.Effects.{CameBy, Keeps, StaysNoted}
 use Rattle.cm_entry.specs.Packing.{words_of}
@@ -15,12 +15,12 @@ stores_from at [] = []
 stores_from at (word ∷ words) = (at, word) ∷ stores_from (at + 1) words
 
 -- the checksum of an entry
-unfoldable pub sum_of : List ℕ → List ℕ → ℕ
-sum_of key value = checksum (head_of key value) (filled key) (filled value)
+unfoldable pub entry_checksum : List ℕ → List ℕ → ℕ
+entry_checksum key value = checksum (head_of key value) (padded key) (padded value)
 
 -- the stores of a value at the entry that begins here: its words, and then the checksum
 unfoldable pub value_stores : ℕ → List ℕ → List ℕ → List (ℕ × ℕ)
-value_stores at key value = stores_from (at + 2 + parts_for 8 (length key)) (words_of value) ++ (at + 1, sum_of key value) ∷ []
+value_stores at key value = stores_from (at + 2 + parts_for 8 (length key)) (words_of value) ++ (at + 1, entry_checksum key value) ∷ []
 
 -- the stores of a whole entry: its first word, the key's words, and then those of a value
 unfoldable pub entry_stores : ℕ → List ℕ → List ℕ → List (ℕ × ℕ)

@@ -3,9 +3,9 @@
 ghost use Rattle.std.specs.Prelude.{◌≡◌, ◌≢◌, ◌↔◌, ◌≤◌, IfOk, IsTrue, List, ℕ, length, take};
 ghost use Rattle.std.specs.Int.{to_le_bytes, w64};
 ghost use Rattle.cm_words.specs.Memory.{FitsNotes, MemSeen};
-ghost use Rattle.cm_words.specs.Meters.{Goes};
+ghost use Rattle.cm_words.specs.Meters.{ReportsDeath};
 ghost use Rattle.cm_words.specs.Effects.{Reads};
-ghost use Rattle.cm_words.specs.declared.standing.Standing.TheVariants.{Closed};
+ghost use Rattle.cm_words.specs.declared.access.Access.TheVariants.{Closed};
 ghost use Rattle.cm_entry.specs.Spans.{IsInside, bytes_in};
 
 use crate::span::Span;
@@ -33,11 +33,11 @@ pub(crate) fn same_bytes<M: Mem>(
     span: Span,
     bytes: &[u8],
 ) -> Result<bool, Dead>
-    requires open { (M.seen mem.old).setting.standing ≢ Closed }
+    requires open { (M.seen mem.old).setting.access ≢ Closed }
     requires geo { (M.seen mem.old).setting.geo ≡ geo.now }
     requires span { IsInside geo.now span }
     ensures rest { M.same_rest mem.old mem.new }
-    ensures goes { Goes (M.seen mem.old).meter (M.seen mem.new).meter result }
+    ensures fuse { ReportsDeath (M.seen mem.old).meter (M.seen mem.new).meter result }
     ensures reads { Reads (M.seen mem.old) (M.seen mem.new) }
     ensures same { IfOk result (λ same. (words : List ℕ) → FitsNotes (M.seen mem.new) words → (IsTrue same ↔ (bytes_in words span ≡ bytes.now))) }
 {

@@ -2,9 +2,9 @@
 
 ghost use Rattle.std.specs.Prelude.{◌≡◌, ◌≢◌, ◌≤◌, OnOk, List, ℕ, length, take};
 ghost use Rattle.cm_words.specs.Memory.{FitsNotes, MemSeen};
-ghost use Rattle.cm_words.specs.Meters.{Goes};
+ghost use Rattle.cm_words.specs.Meters.{ReportsDeath};
 ghost use Rattle.cm_words.specs.Effects.{Reads};
-ghost use Rattle.cm_words.specs.declared.standing.Standing.TheVariants.{Closed};
+ghost use Rattle.cm_words.specs.declared.access.Access.TheVariants.{Closed};
 ghost use Rattle.cm_entry.specs.Spans.{IsInside, bytes_in};
 
 use crate::span::Span;
@@ -18,12 +18,12 @@ pub(crate) fn copy_bytes<M: Mem>(
     span: Span,
     out: &mut [u8],
 ) -> Result<(), Dead>
-    requires open { (M.seen mem.old).setting.standing ≢ Closed }
+    requires open { (M.seen mem.old).setting.access ≢ Closed }
     requires geo { (M.seen mem.old).setting.geo ≡ geo.now }
     requires span { IsInside geo.now span }
     requires room { span.len ≤ length out.old }
     ensures rest { M.same_rest mem.old mem.new }
-    ensures goes { Goes (M.seen mem.old).meter (M.seen mem.new).meter result }
+    ensures fuse { ReportsDeath (M.seen mem.old).meter (M.seen mem.new).meter result }
     ensures reads { Reads (M.seen mem.old) (M.seen mem.new) }
     ensures copied { OnOk result ((words : List ℕ) → FitsNotes (M.seen mem.new) words → take span.len out.new ≡ bytes_in words span) }
 {

@@ -1,6 +1,7 @@
 //! The entries of a tier: a key and a value in words, under a checksum.
 #![tactic(auto)]
 
+mod checksum;
 mod compare;
 mod copy;
 mod hashing;
@@ -8,7 +9,6 @@ mod pack;
 mod read;
 mod span;
 mod store;
-mod sum;
 #[cfg(test)]
 mod tests;
 #[cfg(test)]

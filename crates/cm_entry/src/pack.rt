@@ -2,7 +2,7 @@
 
 ghost use Rattle.std.specs.Prelude.{◌≡◌, ◌+◌, ◌*◌, ◌<◌, ◌≤◌, length};
 ghost use Rattle.cm_geo.specs.Need.{parts_for};
-ghost use Rattle.cm_plain.specs.Readings.{filled, head_of as head_in};
+ghost use Rattle.cm_plain.specs.Readings.{padded, head_of as head_in};
 ghost use Rattle.cm_entry.specs.Packing.{hash_on, part_of, word_of as word_in};
 
 use crate::hashing::hash_word;
@@ -28,7 +28,7 @@ fn word_of(bytes: &[u8]) -> u64
 
 /// One of the words of these bytes.
 pub(crate) fn nth_word(bytes: &[u8], number: u32) -> u64
-    requires short { length bytes.now ≤ 4096 }
+    requires within_limit { length bytes.now ≤ 4096 }
     requires number { number < parts_for 8 (length bytes.now) }
     ensures { result ≡ word_in (part_of bytes.now number) }
 {
@@ -39,7 +39,7 @@ pub(crate) fn nth_word(bytes: &[u8], number: u32) -> u64
 /// A hash that goes on over the words of these bytes.
 pub(crate) fn hash_words(state: u64, bytes: &[u8]) -> u64
     requires { length bytes.now ≤ 4096 }
-    ensures { result ≡ hash_on state (filled bytes.now) }
+    ensures { result ≡ hash_on state (padded bytes.now) }
 {
     let mut hashed = state;
     for number in 0..words_for(bytes) {

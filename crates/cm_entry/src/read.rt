@@ -5,14 +5,14 @@ ghost use Rattle.cm_geo.specs.Hash.{hash as hash_of};
 ghost use Rattle.cm_plain.specs.declared.reply.Pair.{Pair};
 ghost use Rattle.cm_plain.specs.Readings.{entry, reading_at};
 ghost use Rattle.cm_words.specs.Memory.{FitsNotes, MemSeen};
-ghost use Rattle.cm_words.specs.Meters.{Goes};
+ghost use Rattle.cm_words.specs.Meters.{ReportsDeath};
 ghost use Rattle.cm_words.specs.Effects.{Reads};
-ghost use Rattle.cm_words.specs.declared.standing.Standing.TheVariants.{Closed};
+ghost use Rattle.cm_words.specs.declared.access.Access.TheVariants.{Closed};
 
+use crate::checksum::hash_span;
 use crate::compare::same_bytes;
 use crate::copy::copy_bytes;
 use crate::span::{key_span, value_span};
-use crate::sum::hash_span;
 use cm_geo::{Geo, hash};
 use cm_words::{Dead, Mem};
 
@@ -24,12 +24,12 @@ pub fn key_equals<M: Mem>(
     chunk: u32,
     key: &[u8],
 ) -> Result<bool, Dead>
-    requires open { (M.seen mem.old).setting.standing ≢ Closed }
+    requires open { (M.seen mem.old).setting.access ≢ Closed }
     requires geo { (M.seen mem.old).setting.geo ≡ geo.now }
     requires place { place < geo.now.tiers }
     requires chunk { chunk < geo.now.chunks }
     ensures rest { M.same_rest mem.old mem.new }
-    ensures goes { Goes (M.seen mem.old).meter (M.seen mem.new).meter result }
+    ensures fuse { ReportsDeath (M.seen mem.old).meter (M.seen mem.new).meter result }
     ensures reads { Reads (M.seen mem.old) (M.seen mem.new) }
     ensures equals { IfOk result (λ equals. (words : List ℕ) → FitsNotes (M.seen mem.new) words
         → (pair : Pair) → reading_at geo.now words place chunk ≡ entry pair → (IsTrue equals ↔ (pair.key ≡ key.now))) }
@@ -46,12 +46,12 @@ pub fn value_equals<M: Mem>(
     chunk: u32,
     value: &[u8],
 ) -> Result<bool, Dead>
-    requires open { (M.seen mem.old).setting.standing ≢ Closed }
+    requires open { (M.seen mem.old).setting.access ≢ Closed }
     requires geo { (M.seen mem.old).setting.geo ≡ geo.now }
     requires place { place < geo.now.tiers }
     requires chunk { chunk < geo.now.chunks }
     ensures rest { M.same_rest mem.old mem.new }
-    ensures goes { Goes (M.seen mem.old).meter (M.seen mem.new).meter result }
+    ensures fuse { ReportsDeath (M.seen mem.old).meter (M.seen mem.new).meter result }
     ensures reads { Reads (M.seen mem.old) (M.seen mem.new) }
     ensures equals { IfOk result (λ equals. (words : List ℕ) → FitsNotes (M.seen mem.new) words
         → (pair : Pair) → reading_at geo.now words place chunk ≡ entry pair → (IsTrue equals ↔ (pair.value ≡ value.now))) }
@@ -62,12 +62,12 @@ pub fn value_equals<M: Mem>(
 
 /// The hash of the key of the entry at a chunk.
 pub fn key_hash<M: Mem>(mem: &mut M, geo: &Geo, place: u32, chunk: u32) -> Result<u64, Dead>
-    requires open { (M.seen mem.old).setting.standing ≢ Closed }
+    requires open { (M.seen mem.old).setting.access ≢ Closed }
     requires geo { (M.seen mem.old).setting.geo ≡ geo.now }
     requires place { place < geo.now.tiers }
     requires chunk { chunk < geo.now.chunks }
     ensures rest { M.same_rest mem.old mem.new }
-    ensures goes { Goes (M.seen mem.old).meter (M.seen mem.new).meter result }
+    ensures fuse { ReportsDeath (M.seen mem.old).meter (M.seen mem.new).meter result }
     ensures reads { Reads (M.seen mem.old) (M.seen mem.new) }
     ensures hash { IfOk result (λ number. (words : List ℕ) → FitsNotes (M.seen mem.new) words
         → (pair : Pair) → reading_at geo.now words place chunk ≡ entry pair → number ≡ hash_of pair.key) }
@@ -86,15 +86,15 @@ pub fn read_key_into<M: Mem>(
     chunk: u32,
     out: &mut [u8],
 ) -> Result<u32, Dead>
-    requires open { (M.seen mem.old).setting.standing ≢ Closed }
+    requires open { (M.seen mem.old).setting.access ≢ Closed }
     requires geo { (M.seen mem.old).setting.geo ≡ geo.now }
     requires place { place < geo.now.tiers }
     requires chunk { chunk < geo.now.chunks }
     requires room { 256 ≤ length out.old }
     ensures rest { M.same_rest mem.old mem.new }
-    ensures goes { Goes (M.seen mem.old).meter (M.seen mem.new).meter result }
+    ensures fuse { ReportsDeath (M.seen mem.old).meter (M.seen mem.new).meter result }
     ensures reads { Reads (M.seen mem.old) (M.seen mem.new) }
-    ensures short { IfOk result (λ len. len ≤ 256) }
+    ensures within_limit { IfOk result (λ len. len ≤ 256) }
     ensures key { IfOk result (λ len. (words : List ℕ) → FitsNotes (M.seen mem.new) words
         → (pair : Pair) → reading_at geo.now words place chunk ≡ entry pair → (len ≡ length pair.key) × (take len out.new ≡ pair.key)) }
 {
@@ -112,15 +112,15 @@ pub fn read_value_into<M: Mem>(
     chunk: u32,
     out: &mut [u8],
 ) -> Result<u32, Dead>
-    requires open { (M.seen mem.old).setting.standing ≢ Closed }
+    requires open { (M.seen mem.old).setting.access ≢ Closed }
     requires geo { (M.seen mem.old).setting.geo ≡ geo.now }
     requires place { place < geo.now.tiers }
     requires chunk { chunk < geo.now.chunks }
     requires room { 4096 ≤ length out.old }
     ensures rest { M.same_rest mem.old mem.new }
-    ensures goes { Goes (M.seen mem.old).meter (M.seen mem.new).meter result }
+    ensures fuse { ReportsDeath (M.seen mem.old).meter (M.seen mem.new).meter result }
     ensures reads { Reads (M.seen mem.old) (M.seen mem.new) }
-    ensures short { IfOk result (λ len. len ≤ 4096) }
+    ensures within_limit { IfOk result (λ len. len ≤ 4096) }
     ensures value { IfOk result (λ len. (words : List ℕ) → FitsNotes (M.seen mem.new) words
         → (pair : Pair) → reading_at geo.now words place chunk ≡ entry pair → (len ≡ length pair.value) × (take len out.new ≡ pair.value)) }
 {

@@ -7,9 +7,9 @@ ghost use Rattle.cm_plain.specs.declared.reply.Pair.{Pair};
 ghost use Rattle.cm_plain.specs.Readings.{entry, key_len, reading_at, value_len};
 ghost use Rattle.cm_plain.specs.Slots.{word_at};
 ghost use Rattle.cm_words.specs.Memory.{FitsNotes, MemSeen};
-ghost use Rattle.cm_words.specs.Meters.{Goes};
+ghost use Rattle.cm_words.specs.Meters.{ReportsDeath};
 ghost use Rattle.cm_words.specs.Effects.{Reads};
-ghost use Rattle.cm_words.specs.declared.standing.Standing.TheVariants.{Closed};
+ghost use Rattle.cm_words.specs.declared.access.Access.TheVariants.{Closed};
 ghost use Rattle.cm_entry.specs.Spans.{AreLengths, IsInside, IsSpanOf};
 
 use cm_geo::Geo;
@@ -33,12 +33,12 @@ pub(crate) fn halves(head: u64) -> (u32, u32)
 /// The lengths of the key and of the value of the entry at a chunk: the halves of its first word,
 /// whatever stands there.
 pub fn lengths<M: Mem>(mem: &mut M, geo: &Geo, place: u32, chunk: u32) -> Result<(u32, u32), Dead>
-    requires open { (M.seen mem.old).setting.standing ≢ Closed }
+    requires open { (M.seen mem.old).setting.access ≢ Closed }
     requires geo { (M.seen mem.old).setting.geo ≡ geo.now }
     requires place { place < geo.now.tiers }
     requires chunk { chunk < geo.now.chunks }
     ensures rest { M.same_rest mem.old mem.new }
-    ensures goes { Goes (M.seen mem.old).meter (M.seen mem.new).meter result }
+    ensures fuse { ReportsDeath (M.seen mem.old).meter (M.seen mem.new).meter result }
     ensures reads { Reads (M.seen mem.old) (M.seen mem.new) }
     ensures halves { IfOk result (λ lengths. (words : List ℕ) → FitsNotes (M.seen mem.new) words
         → AreLengths (word_at words (chunk_at geo.now place chunk)) lengths.0 lengths.1) }
@@ -52,11 +52,11 @@ pub fn lengths<M: Mem>(mem: &mut M, geo: &Geo, place: u32, chunk: u32) -> Result
 
 // The span of so many bytes; an empty one where they are too many or reach behind the segment.
 fn span_at(geo: &Geo, at: u32, len: u32, most: u32) -> Span
-    requires behind { 0 < at }
+    requires not_first { 0 < at }
     requires early { at < 2 ^ 31 }
     requires most { most ≤ 4096 }
     ensures inside { IsInside geo.now result }
-    ensures short { result.len ≤ most }
+    ensures within_limit { result.len ≤ most }
     ensures whole { len ≤ most → at + parts_for 8 len ≤ words_in_segment geo.now → result ≡ record { at = at; len = len } }
 {
     if len <= most && at + len.div_ceil(8) <= geo.segment_words() {
@@ -68,15 +68,15 @@ fn span_at(geo: &Geo, at: u32, len: u32, most: u32) -> Span
 
 /// Where the key of the entry at a chunk stands.
 pub(crate) fn key_span<M: Mem>(mem: &mut M, geo: &Geo, place: u32, chunk: u32) -> Result<Span, Dead>
-    requires open { (M.seen mem.old).setting.standing ≢ Closed }
+    requires open { (M.seen mem.old).setting.access ≢ Closed }
     requires geo { (M.seen mem.old).setting.geo ≡ geo.now }
     requires place { place < geo.now.tiers }
     requires chunk { chunk < geo.now.chunks }
     ensures rest { M.same_rest mem.old mem.new }
-    ensures goes { Goes (M.seen mem.old).meter (M.seen mem.new).meter result }
+    ensures fuse { ReportsDeath (M.seen mem.old).meter (M.seen mem.new).meter result }
     ensures reads { Reads (M.seen mem.old) (M.seen mem.new) }
     ensures inside { IfOk result (λ span. IsInside geo.now span) }
-    ensures short { IfOk result (λ span. span.len ≤ 256) }
+    ensures within_limit { IfOk result (λ span. span.len ≤ 256) }
     ensures key { IfOk result (λ span. (words : List ℕ) → FitsNotes (M.seen mem.new) words
         → (pair : Pair) → reading_at geo.now words place chunk ≡ entry pair → IsSpanOf words span pair.key) }
 {
@@ -91,15 +91,15 @@ pub(crate) fn value_span<M: Mem>(
     place: u32,
     chunk: u32,
 ) -> Result<Span, Dead>
-    requires open { (M.seen mem.old).setting.standing ≢ Closed }
+    requires open { (M.seen mem.old).setting.access ≢ Closed }
     requires geo { (M.seen mem.old).setting.geo ≡ geo.now }
     requires place { place < geo.now.tiers }
     requires chunk { chunk < geo.now.chunks }
     ensures rest { M.same_rest mem.old mem.new }
-    ensures goes { Goes (M.seen mem.old).meter (M.seen mem.new).meter result }
+    ensures fuse { ReportsDeath (M.seen mem.old).meter (M.seen mem.new).meter result }
     ensures reads { Reads (M.seen mem.old) (M.seen mem.new) }
     ensures inside { IfOk result (λ span. IsInside geo.now span) }
-    ensures short { IfOk result (λ span. span.len ≤ 4096) }
+    ensures within_limit { IfOk result (λ span. span.len ≤ 4096) }
     ensures value { IfOk result (λ span. (words : List ℕ) → FitsNotes (M.seen mem.new) words
         → (pair : Pair) → reading_at geo.now words place chunk ≡ entry pair → IsSpanOf words span pair.value) }
 {

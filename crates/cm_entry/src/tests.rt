@@ -164,9 +164,15 @@ fn a_small_entry_is_read(rt: HostRuntime) -> Result<(), Fail> {
     let words = laid(rt.alloc(), at_chunk(63), &SMALL)?;
     assert_eq!(rt; lengths_at(&words, 63), Some((9, 6)));
     assert_eq!(rt; hash_at(&words, 63), Some(0x5b7a_10a3_87fc_ef36));
-    assert_eq!(rt; key_at(&words, 63, b"short key"), Some((true, true)));
-    assert_eq!(rt; key_at(&words, 63, b"short kez"), Some((false, false)));
-    assert_eq!(rt; key_at(&words, 63, b"short ke"), Some((false, false)));
+    assert_eq!(rt; key_at(&words, 63, b"within_limit key"), Some((true, true)));
+    assert_eq!(rt;
+        key_at(&words, 63, b"within_limit kez"),
+        Some((false, false))
+    );
+    assert_eq!(rt;
+        key_at(&words, 63, b"within_limit ke"),
+        Some((false, false))
+    );
     assert_eq!(rt; value_at(&words, 63, b"value!"), Some((true, true)));
     assert_eq!(rt; value_at(&words, 63, b"Value!"), Some((false, false)));
     Ok(())

@@ -246,8 +246,8 @@ fn a_longer_value_is_stopped_at_each_of_its_stores(rt: HostRuntime) -> Result<()
 #[test]
 fn a_value_takes_one_load(rt: HostRuntime) -> Result<(), Fail> {
     let (_, enough) = replaced(rt.alloc(), KillFuse::Events { left: 4 }, b"other ten!")?;
-    let (_, few) = replaced(rt.alloc(), KillFuse::Events { left: 3 }, b"other ten!")?;
+    let (_, within_limit) = replaced(rt.alloc(), KillFuse::Events { left: 3 }, b"other ten!")?;
     assert_eq!(rt; enough, Ok(()));
-    assert_eq!(rt; few, Err(Dead));
+    assert_eq!(rt; within_limit, Err(Dead));
     Ok(())
 }

@@ -24,7 +24,7 @@ impl Geo {
     }
 
     /// The first of the four head words of the tier at this place.
-    #[tactic(auto, using(crate::proofs::InOrder::tier_fits), unfolding(crate::specs::Addresses::words_in_tier, crate::specs::Addresses::tier_at))]
+    #[tactic(auto, using(crate::proofs::AddressOrder::tier_fits), unfolding(crate::specs::Addresses::words_in_tier, crate::specs::Addresses::tier_at))]
     pub fn tier_at(&self, place: u32) -> u32
         requires place { place < self.now.tiers }
         ensures value { result ≡ tier_at self.now place }
@@ -34,7 +34,7 @@ impl Geo {
     }
 
     /// A word of bits of the tier at this place. Bit b of word i tells whether chunk 64 i + b is taken.
-    #[tactic(auto, using(crate::proofs::InOrder::tier_fits), unfolding(crate::specs::Addresses::words_in_tier, crate::specs::Addresses::bits_at))]
+    #[tactic(auto, using(crate::proofs::AddressOrder::tier_fits), unfolding(crate::specs::Addresses::words_in_tier, crate::specs::Addresses::bits_at))]
     pub fn bits_at(&self, place: u32, word: u32) -> u32
         requires place { place < self.now.tiers }
         requires word { word < self.now.chunks / 64 }
@@ -45,7 +45,7 @@ impl Geo {
     }
 
     /// The word of a slot of the tier at this place, which has two slots for each chunk.
-    #[tactic(auto, using(crate::proofs::InOrder::tier_fits), unfolding(crate::specs::Addresses::words_in_tier, crate::specs::Addresses::slot_at))]
+    #[tactic(auto, using(crate::proofs::AddressOrder::tier_fits), unfolding(crate::specs::Addresses::words_in_tier, crate::specs::Addresses::slot_at))]
     pub fn slot_at(&self, place: u32, slot: u32) -> u32
         requires place { place < self.now.tiers }
         requires slot { slot < 2 * self.now.chunks }
@@ -56,7 +56,7 @@ impl Geo {
     }
 
     /// The first word of a chunk of the tier at this place.
-    #[tactic(auto, using(crate::proofs::InOrder::chunk_fits), unfolding(crate::specs::Addresses::chunk_at))]
+    #[tactic(auto, using(crate::proofs::AddressOrder::chunk_fits), unfolding(crate::specs::Addresses::chunk_at))]
     pub fn chunk_at(&self, place: u32, chunk: u32) -> u32
         requires place { place < self.now.tiers }
         requires chunk { chunk < self.now.chunks }

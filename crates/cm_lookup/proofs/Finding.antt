@@ -10,8 +10,8 @@ use Rattle.cm_plain.specs.Lawful.{steps_between}
 use Rattle.cm_lookup.specs.declared.hit.Hit.{Hit}
 use Rattle.cm_lookup.specs.Probing.{HasNoHit, IsFirstEmpty, IsFirstHit, IsHit, IsPassed, probe}
 use Rattle.cm_lookup.specs.Tiers.{HasEmptySlot, KeepsSlotLaw, ring_of}
-use Rattle.cm_lookup.proofs.Round.{onward-way, way_below}
-use Rattle.cm_lookup.proofs.Words.{half_chunk, slot_empty, slot_parts, slot_some}
+use Rattle.cm_lookup.proofs.RingArithmetic.{onward-way, way_below}
+use Rattle.cm_lookup.proofs.SlotWords.{half_chunk, slot_empty, slot_parts, slot_some}
 
 -- ---- by the words of the slots
 
@@ -23,7 +23,7 @@ probe_below geo fingerprint steps = mod-lt (home_in geo fingerprint + steps) (om
 pub is_hit : (geo : Geo) (words : List ℕ) (place fingerprint steps slot word : ℕ) → slot ≡ probe geo fingerprint steps → get_or words (slot_at geo place slot) 0 ≡ word
     → word / 2 ^ 32 ≡ fingerprint → 0 < word % 2 ^ 32 → word % 2 ^ 32 ≤ geo.chunks
     → IsHit geo words place fingerprint (record { steps = steps; slot = slot; chunk = word % 2 ^ 32 - 1 })
-is_hit geo words place fingerprint steps slot word slot_is word_is upper some below = record {
+is_hit geo words place fingerprint steps slot word slot_is word_is upper occupied below = record {
   slot_is = slot_is;
   found = slot_some geo words place slot word word_is (omega arith)
       ∙ rw (upper, (half_chunk (word % 2 ^ 32) (word % 2 ^ 32 - 1)).1 (omega arith)) refl;
@@ -40,8 +40,8 @@ hit_halves geo words place fingerprint hit hits =
 -- a slot that is passed, by its word
 pub is_passed : (geo : Geo) (words : List ℕ) (place fingerprint steps word : ℕ) → get_or words (slot_at geo place (probe geo fingerprint steps)) 0 ≡ word → word ≢ 0
     → (word / 2 ^ 32 ≡ fingerprint → 0 < word % 2 ^ 32 → word % 2 ^ 32 ≤ geo.chunks → ⊥) → IsPassed geo words place fingerprint steps
-is_passed geo words place fingerprint steps word word_is some fails = record {
-  some = λ empty. some (sym word_is ∙ (slot_empty geo words place (probe geo fingerprint steps)).0 empty);
+is_passed geo words place fingerprint steps word word_is occupied fails = record {
+  occupied = λ empty. occupied (sym word_is ∙ (slot_empty geo words place (probe geo fingerprint steps)).0 empty);
   other = λ hit same hits. none hit hits (hits.slot_is ∙ ap (probe geo fingerprint) same);
 }
   where
@@ -57,7 +57,7 @@ is_empty geo words place slot e = (slot_empty geo words place slot).1 e
 
 -- and one that isn't
 pub is_some : (geo : Geo) (words : List ℕ) (place slot : ℕ) → get_or words (slot_at geo place slot) 0 ≢ 0 → slot_in geo words place slot ≢ None
-is_some geo words place slot some e = some ((slot_empty geo words place slot).0 e)
+is_some geo words place slot occupied e = occupied ((slot_empty geo words place slot).0 e)
 
 -- ---- exactly one answer
 
@@ -65,8 +65,8 @@ is_some geo words place slot some e = some ((slot_empty geo words place slot).0 
 pub one_first_hit : (geo : Geo) (words : List ℕ) (place fingerprint from : ℕ) (a b : Hit) → IsFirstHit geo words place fingerprint from a → IsFirstHit geo words place fingerprint from b → a ≡ b
 one_first_hit geo words place fingerprint from a b one other = elim (cases_order a.steps b.steps) [
   | inr apart ↦ elim apart [
-    | inl less ↦ absurd ((other.before a.steps one.late less).other a refl one.hits)
-    | inr more ↦ absurd ((one.before b.steps other.late more).other b refl other.hits)
+    | inl less ↦ absurd ((other.before a.steps one.not_before less).other a refl one.hits)
+    | inr more ↦ absurd ((one.before b.steps other.not_before more).other b refl other.hits)
   ]
   | inl same ↦
       let slots : a.slot ≡ b.slot = one.hits.slot_is ∙ (ap (probe geo fingerprint) same ∙ sym other.hits.slot_is) in
@@ -88,8 +88,8 @@ no_first_hit geo words place fingerprint from hit none first = elim (cases_order
       let clash : Some (record { fingerprint = fingerprint; chunk = Some hit.chunk }) ≡ None = sym first.hits.found ∙ (ap (slot_in geo words place) there ∙ empty) in
       cc clash
   | inr apart ↦ elim apart [
-    | inl less ↦ (none.before hit.steps first.late less).other hit refl first.hits
-    | inr more ↦ (first.before none.end none.late more).some (none.empty (omega (arith, first.inside)))
+    | inl less ↦ (none.before hit.steps first.not_before less).other hit refl first.hits
+    | inr more ↦ (first.before none.end none.not_before more).occupied (none.empty (omega (arith, first.inside)))
   ]
 ]
 
@@ -109,8 +109,8 @@ one_first_empty geo words place fingerprint a b one other = elim (cases_order on
 pub slot_is_probe : (geo : Geo) (fingerprint number : ℕ) → number < 2 * geo.chunks
     → (steps_between geo (home_in geo fingerprint) number < 2 * geo.chunks) × (probe geo fingerprint (steps_between geo (home_in geo fingerprint) number) ≡ number)
 slot_is_probe geo fingerprint number below =
-    let some : 0 < 2 * geo.chunks = omega (arith, chunks_range geo) in
-    (way_below (ring_of geo) (home_in geo fingerprint) number some, onward-way (ring_of geo) (home_in geo fingerprint) number (mod-lt fingerprint some) below)
+    let occupied : 0 < 2 * geo.chunks = omega (arith, chunks_range geo) in
+    (way_below (ring_of geo) (home_in geo fingerprint) number occupied, onward-way (ring_of geo) (home_in geo fingerprint) number (mod-lt fingerprint occupied) below)
 
 -- a whole round meets an empty slot
 pub round_meets : (geo : Geo) (words : List ℕ) (place fingerprint : ℕ) → HasEmptySlot geo words place → ((steps : ℕ) → steps < 2 * geo.chunks → slot_in geo words place (probe geo fingerprint steps) ≢ None) → ⊥
@@ -126,8 +126,8 @@ law_finds geo words place fingerprint from number chunk law below chunk_below is
     let steps : ℕ = steps_between geo (home_in geo fingerprint) number in
     elim (cases_lt (steps_between geo (home_in geo fingerprint) number) from) [
       | inl before ↦ before
-      | inr late ↦ elim (cases_lt (steps_between geo (home_in geo fingerprint) number) none.end) [
-        | inl inside ↦ absurd ((none.before (steps_between geo (home_in geo fingerprint) number) late inside).other
+      | inr not_before ↦ elim (cases_lt (steps_between geo (home_in geo fingerprint) number) none.end) [
+        | inl inside ↦ absurd ((none.before (steps_between geo (home_in geo fingerprint) number) not_before inside).other
             (record { steps = steps_between geo (home_in geo fingerprint) number; slot = number; chunk = chunk }) refl (record { slot_is = sym there.1; found = is; below = chunk_below }))
         | inr behind ↦ absurd (ends (none.empty (omega (arith, there.0))) behind there.1)
       ]

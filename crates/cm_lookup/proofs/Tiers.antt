@@ -8,18 +8,18 @@ use Rattle.cm_geo.specs.declared.geo.Geo.{Geo}
 use Rattle.cm_geo.specs.Addresses.{slot_at, words_in_segment}
 use Rattle.cm_geo.specs.Hash.{home_in}
 use Rattle.cm_geo.proofs.Ranges.{chunks_range}
-use Rattle.cm_geo.proofs.InOrder.{slot_in_range, slots_behind_head, tier_behind_head}
-use Rattle.cm_geo.proofs.Apart.{slots_apart}
+use Rattle.cm_geo.proofs.AddressOrder.{slot_in_range, slots_behind_head, tier_behind_head}
+use Rattle.cm_geo.proofs.AddressesApart.{slots_apart}
 use Rattle.cm_plain.specs.Slots.{chunk_of_half, slot_in, word_at}
 use Rattle.cm_plain.specs.Lawful.{slot_behind, steps_between}
 use Rattle.cm_lookup.specs.Rings.{IsRing, KeepsLaw}
 use Rattle.cm_words.specs.Effects.{after_stores}
 use Rattle.cm_lookup.specs.Tiers.{KeepsSlotLaw, at_slots, ring_of, slot_words}
-use Rattle.cm_lookup.proofs.Words.{slot_empty, slot_parts, slot_some}
+use Rattle.cm_lookup.proofs.SlotWords.{slot_empty, slot_parts, slot_some}
 
 -- a tier's slots are a ring
 pub tier_is_ring : (geo : Geo) → IsRing (ring_of geo)
-tier_is_ring geo = record { some = omega (arith, chunks_range geo); inside = λ word. mod-lt (word / 2 ^ 32) (omega (arith, chunks_range geo)) }
+tier_is_ring geo = record { nonzero = omega (arith, chunks_range geo); inside = λ word. mod-lt (word / 2 ^ 32) (omega (arith, chunks_range geo)) }
 
 -- as many words as slots
 pub slot_words_long : (geo : Geo) (words : List ℕ) (place : ℕ) → length (slot_words geo words place) ≡ 2 * geo.chunks
@@ -36,14 +36,14 @@ slot_words_at geo words place slot below = get_or-map-range_with_len (λ slot. w
 -- one store at a slot
 pub slot_words_set : (geo : Geo) (words : List ℕ) (place slot word : ℕ) → length words ≡ words_in_segment geo → place < geo.tiers → slot < 2 * geo.chunks
     → slot_words geo (slice_set words (slot_at geo place slot) word) place ≡ set (slot_words geo words place) slot word
-slot_words_set geo words place slot word many place_below below =
+slot_words_set geo words place slot word length_is place_below below =
     same_number_lists (slot_words geo (slice_set words (slot_at geo place slot) word) place) (set (slot_words geo words place) slot word)
     (slot_words_long geo (slice_set words (slot_at geo place slot) word) place ∙ sym (length-set (slot_words geo words place) slot word ∙ slot_words_long geo words place))
     (λ k k_below. each k (omega (arith, slot_words_long geo (slice_set words (slot_at geo place slot) word) place)))
   where
     each : (k : ℕ) → k < 2 * geo.chunks → get_or (slot_words geo (slice_set words (slot_at geo place slot) word) place) k 0 ≡ get_or (set (slot_words geo words place) slot word) k 0
     each k k_below =
-        let in_range : slot_at geo place slot < length words = omega (arith, many, slot_in_range geo place slot place_below below) in
+        let in_range : slot_at geo place slot < length words = omega (arith, length_is, slot_in_range geo place slot place_below below) in
         let inside : slot < length (slot_words geo words place) = omega (arith, slot_words_long geo words place) in
         elim (cases_eq k slot) [
           | inl same ↦ subst (λ (i : ℕ). get_or (slot_words geo (slice_set words (slot_at geo place slot) word) place) i 0 ≡ get_or (set (slot_words geo words place) slot word) i 0) (sym same)
@@ -65,10 +65,10 @@ after_stores_long words (store ∷ stores) = after_stores_long (set words store.
 -- stores at slots of a tier, one after the other
 pub slot_words_after : (geo : Geo) (words : List ℕ) (place : ℕ) (stores : List (ℕ × ℕ)) → length words ≡ words_in_segment geo → place < geo.tiers → AreWithin (2 * geo.chunks) stores
     → slot_words geo (after_stores words (at_slots geo place stores)) place ≡ after_stores (slot_words geo words place) stores
-slot_words_after geo words place [] many place_below within = refl
-slot_words_after geo words place (store ∷ stores) many place_below within =
-    slot_words_after geo (set words (slot_at geo place store.0) store.1) place stores (length-set words (slot_at geo place store.0) store.1 ∙ many) place_below within.1
-    ∙ ap (λ (ws : List ℕ). after_stores ws stores) (slot_words_set geo words place store.0 store.1 many place_below within.0)
+slot_words_after geo words place [] length_is place_below within = refl
+slot_words_after geo words place (store ∷ stores) length_is place_below within =
+    slot_words_after geo (set words (slot_at geo place store.0) store.1) place stores (length-set words (slot_at geo place store.0) store.1 ∙ length_is) place_below within.1
+    ∙ ap (λ (ws : List ℕ). after_stores ws stores) (slot_words_set geo words place store.0 store.1 length_is place_below within.0)
 
 -- a word that is at no slot of the tier is left
 pub after_stores_left : (geo : Geo) (words : List ℕ) (place : ℕ) (stores : List (ℕ × ℕ)) (at : ℕ) → AreWithin (2 * geo.chunks) stores
@@ -82,8 +82,8 @@ after_stores_left geo words place (store ∷ stores) at within apart =
 
 -- of the tier's words from that of its slots
 pub law_of_ring : (geo : Geo) (words : List ℕ) (place : ℕ) → KeepsSlotLaw geo words place → KeepsLaw (ring_of geo) (slot_words geo words place)
-law_of_ring geo words place law number word below is some steps on_way =
-    let there = slot_some geo words place number word (sym (slot_words_at geo words place number below) ∙ is) some in
+law_of_ring geo words place law number word below is nonzero steps on_way =
+    let there = slot_some geo words place number word (sym (slot_words_at geo words place number below) ∙ is) nonzero in
     let some_ring : 0 < 2 * geo.chunks = omega (arith, chunks_range geo) in
     λ gone. law number (record { fingerprint = word / 2 ^ 32; chunk = chunk_of_half (word % 2 ^ 32) }) below there steps on_way
     ((slot_empty geo words place (slot_behind geo (home_in geo (word / 2 ^ 32)) steps)).1

@@ -23,12 +23,12 @@ pub record IsHit (geo : Geo) (words : List ℕ) (place fingerprint : ℕ) (hit :
 
 -- a search goes on behind the slot so many steps from the home: it is neither empty nor a hit
 pub record IsPassed (geo : Geo) (words : List ℕ) (place fingerprint steps : ℕ) : Type 0 where
-  pub some : slot_in geo words place (probe geo fingerprint steps) ≢ None
+  pub occupied : slot_in geo words place (probe geo fingerprint steps) ≢ None
   pub other : (hit : Hit) → hit.steps ≡ steps → IsHit geo words place fingerprint hit → ⊥
 
 -- the first hit at so many steps or more, before an empty slot that stands there
 pub record IsFirstHit (geo : Geo) (words : List ℕ) (place fingerprint from : ℕ) (hit : Hit) : Type 0 where
-  pub late : from ≤ hit.steps
+  pub not_before : from ≤ hit.steps
   pub inside : hit.steps < 2 * geo.chunks
   pub hits : IsHit geo words place fingerprint hit
   pub before : (steps : ℕ) → from ≤ steps → steps < hit.steps → IsPassed geo words place fingerprint steps
@@ -36,7 +36,7 @@ pub record IsFirstHit (geo : Geo) (words : List ℕ) (place fingerprint from : �
 -- no hit at so many steps or more, up to an empty slot that stands there, or to the end of a whole round from the home
 pub record HasNoHit (geo : Geo) (words : List ℕ) (place fingerprint from : ℕ) : Type 0 where
   pub end : ℕ
-  pub late : from ≤ end
+  pub not_before : from ≤ end
   pub inside : end ≤ 2 * geo.chunks
   pub empty : end < 2 * geo.chunks → IsEmptyAt geo words place fingerprint end
   pub before : (steps : ℕ) → from ≤ steps → steps < end → IsPassed geo words place fingerprint steps

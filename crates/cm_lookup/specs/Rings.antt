@@ -9,7 +9,7 @@ pub record Ring : Type 0 where
 
 -- there are slots, and each search begins at one
 pub record IsRing (ring : Ring) : Type 0 where
-  pub some : 0 < ring.size
+  pub nonzero : 0 < ring.size
   pub inside : (word : ℕ) → ring.home word < ring.size
 
 -- the steps from a slot to another
@@ -21,19 +21,19 @@ abbrev pub onward : Ring → ℕ → ℕ → ℕ
 onward ring from steps = (from + steps) % ring.size
 
 -- the word so many steps behind a slot
-abbrev pub looked : Ring → List ℕ → ℕ → ℕ → ℕ
-looked ring slots from steps = slice_index slots (onward ring from steps)
+abbrev pub word_behind : Ring → List ℕ → ℕ → ℕ → ℕ
+word_behind ring slots from steps = slice_index slots (onward ring from steps)
 
 -- the slot law: no slot from a word's home on to the word's slot is empty
 abbrev pub KeepsLaw : Ring → List ℕ → Type 0
 KeepsLaw ring slots =
     (number word : ℕ) → number < ring.size → slice_index slots number ≡ word → word ≢ 0
-    → (steps : ℕ) → steps < way ring (ring.home word) number → looked ring slots (ring.home word) steps ≢ 0
+    → (steps : ℕ) → steps < way ring (ring.home word) number → word_behind ring slots (ring.home word) steps ≢ 0
 
 -- a slot isn't empty
-abbrev pub is_taken : ℕ → Bool
-is_taken word = not (word == 0)
+abbrev pub is_occupied : ℕ → Bool
+is_occupied word = not (word == 0)
 
 -- the words of the slots that aren't empty
-unfoldable pub taken : List ℕ → List ℕ
-taken slots = filter is_taken slots
+unfoldable pub occupied_words : List ℕ → List ℕ
+occupied_words slots = filter is_occupied slots

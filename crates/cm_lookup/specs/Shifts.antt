@@ -1,6 +1,6 @@
 -- What a removal stores in a ring of slots (after Knuth's Algorithm R, with the direction of probing turned round).
 use Rattle.std.specs.Prelude.{ℕ, ◌≡◌, ◌≢◌, ◌+◌, ◌<◌, List, [], ◌∷◌, ◌++◌}
-use Rattle.cm_lookup.specs.Rings.{Ring, way, onward, looked}
+use Rattle.cm_lookup.specs.Rings.{Ring, way, onward, word_behind}
 
 -- A word so many steps behind the removed slot stays where it is, for the hole that is so many steps behind that slot:
 -- the way from the word's home is shorter than the way from the hole, so the search for the word doesn't pass the hole.
@@ -11,19 +11,19 @@ Stays ring slot hole steps word = way ring (ring.home word) (onward ring slot st
 pub data Shift (ring : Ring) (slots : List ℕ) (slot : ℕ) : ℕ → ℕ → List (ℕ × ℕ) → Type 0 where
   begins : Shift ring slots slot 0 1 []
   stays : (hole steps : ℕ) (made : List (ℕ × ℕ)) → Shift ring slots slot hole steps made → steps < ring.size
-      → looked ring slots slot steps ≢ 0 → Stays ring slot hole steps (looked ring slots slot steps)
+      → word_behind ring slots slot steps ≢ 0 → Stays ring slot hole steps (word_behind ring slots slot steps)
       → Shift ring slots slot hole (steps + 1) made
   moves : (hole steps : ℕ) (made : List (ℕ × ℕ)) → Shift ring slots slot hole steps made → steps < ring.size
-      → looked ring slots slot steps ≢ 0 → (Stays ring slot hole steps (looked ring slots slot steps) → ⊥)
-      → Shift ring slots slot steps (steps + 1) (made ++ (onward ring slot hole, looked ring slots slot steps) ∷ [])
+      → word_behind ring slots slot steps ≢ 0 → (Stays ring slot hole steps (word_behind ring slots slot steps) → ⊥)
+      → Shift ring slots slot steps (steps + 1) (made ++ (onward ring slot hole, word_behind ring slots slot steps) ∷ [])
 
 -- after these stores the shift makes this one: the word that doesn't stay goes to the hole, and at the first empty slot 0 does
 pub data NextStore (ring : Ring) (slots : List ℕ) (slot : ℕ) : List (ℕ × ℕ) → ℕ → ℕ → Type 0 where
   moved : (hole steps : ℕ) (made : List (ℕ × ℕ)) → Shift ring slots slot hole steps made → steps < ring.size
-      → looked ring slots slot steps ≢ 0 → (Stays ring slot hole steps (looked ring slots slot steps) → ⊥)
-      → NextStore ring slots slot made (onward ring slot hole) (looked ring slots slot steps)
+      → word_behind ring slots slot steps ≢ 0 → (Stays ring slot hole steps (word_behind ring slots slot steps) → ⊥)
+      → NextStore ring slots slot made (onward ring slot hole) (word_behind ring slots slot steps)
   emptied : (hole steps : ℕ) (made : List (ℕ × ℕ)) → Shift ring slots slot hole steps made → steps < ring.size
-      → looked ring slots slot steps ≡ 0
+      → word_behind ring slots slot steps ≡ 0
       → NextStore ring slots slot made (onward ring slot hole) 0
 
 -- these are all the stores of the shift from a slot
@@ -33,5 +33,5 @@ pub record IsShift (ring : Ring) (slots : List ℕ) (slot : ℕ) (stores : List 
   pub made : List (ℕ × ℕ)
   pub shift : Shift ring slots slot hole steps made
   pub within : steps < ring.size
-  pub empty : looked ring slots slot steps ≡ 0
+  pub empty : word_behind ring slots slot steps ≡ 0
   pub stores_are : stores ≡ made ++ (onward ring slot hole, 0) ∷ []

@@ -7,7 +7,7 @@ use Rattle.cm_geo.specs.Addresses.{slot_at}
 use Rattle.cm_geo.specs.Hash.{home_in}
 use Rattle.cm_plain.specs.Slots.{Slot, slot_in, word_at}
 use Rattle.cm_plain.specs.Lawful.{IsReached}
-use Rattle.cm_lookup.specs.Rings.{Ring, taken}
+use Rattle.cm_lookup.specs.Rings.{Ring, occupied_words}
 
 -- the ring: a word's home is that of its upper half, the fingerprint
 abbrev pub ring_of : Geo → Ring
@@ -37,4 +37,4 @@ KeepsSlotLaw geo words place =
 -- the slot law holds, and the words of the slots, in any order, have lost just the one of this slot
 pub record LostSlot (geo : Geo) (before words : List ℕ) (place slot : ℕ) : Type 0 where
   pub law : KeepsSlotLaw geo words place
-  pub lost : IsPermutation (taken (slot_words geo before place)) (word_at before (slot_at geo place slot) ∷ taken (slot_words geo words place))
+  pub lost : IsPermutation (occupied_words (slot_words geo before place)) (word_at before (slot_at geo place slot) ∷ occupied_words (slot_words geo words place))

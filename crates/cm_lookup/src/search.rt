@@ -2,9 +2,9 @@
 
 ghost use Rattle.std.specs.Prelude.{◌≡◌, ◌≢◌, ◌*◌, ◌<◌, ◌≤◌, IfOk, List, ℕ};
 ghost use Rattle.cm_words.specs.Memory.{MemSeen, FitsNotes};
-ghost use Rattle.cm_words.specs.Meters.{Goes};
+ghost use Rattle.cm_words.specs.Meters.{ReportsDeath};
 ghost use Rattle.cm_words.specs.Effects.{Reads};
-ghost use Rattle.cm_words.specs.declared.standing.Standing.TheVariants.{Closed};
+ghost use Rattle.cm_words.specs.declared.access.Access.TheVariants.{Closed};
 ghost use Rattle.cm_lookup.specs.Probing.{ChunkFor, Finds, IsFirstEmpty};
 ghost use Rattle.cm_lookup.specs.Tiers.{HasEmptySlot};
 
@@ -33,12 +33,12 @@ pub fn find<M: Mem>(
     fingerprint: u32,
     from: u32,
 ) -> Result<Option<Hit>, Dead>
-    requires open { (M.seen mem.old).setting.standing ≢ Closed }
+    requires open { (M.seen mem.old).setting.access ≢ Closed }
     requires geo { (M.seen mem.old).setting.geo ≡ geo.now }
     requires place { place < geo.now.tiers }
     requires from { from ≤ 2 * geo.now.chunks }
     ensures rest { M.same_rest mem.old mem.new }
-    ensures goes { Goes (M.seen mem.old).meter (M.seen mem.new).meter result }
+    ensures fuse { ReportsDeath (M.seen mem.old).meter (M.seen mem.new).meter result }
     ensures reads { Reads (M.seen mem.old) (M.seen mem.new) }
     ensures found { IfOk result (λ found. (words : List ℕ) → FitsNotes (M.seen mem.new) words → Finds geo.now words place fingerprint from found) }
 {
@@ -59,11 +59,11 @@ pub fn find<M: Mem>(
 
 /// The first empty slot from the home of the fingerprint on.
 pub fn free_slot<M: Mem>(mem: &mut M, geo: &Geo, place: u32, fingerprint: u32) -> Result<u32, Dead>
-    requires open { (M.seen mem.old).setting.standing ≢ Closed }
+    requires open { (M.seen mem.old).setting.access ≢ Closed }
     requires geo { (M.seen mem.old).setting.geo ≡ geo.now }
     requires place { place < geo.now.tiers }
     ensures rest { M.same_rest mem.old mem.new }
-    ensures goes { Goes (M.seen mem.old).meter (M.seen mem.new).meter result }
+    ensures fuse { ReportsDeath (M.seen mem.old).meter (M.seen mem.new).meter result }
     ensures reads { Reads (M.seen mem.old) (M.seen mem.new) }
     ensures in_range { IfOk result (λ slot. slot < 2 * geo.now.chunks) }
     ensures first { IfOk result (λ slot. (words : List ℕ) → FitsNotes (M.seen mem.new) words

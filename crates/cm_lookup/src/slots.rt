@@ -4,9 +4,9 @@ ghost use Rattle.std.specs.Prelude.{◌≡◌, ◌≢◌, ◌*◌, ◌<◌, ◌�
 ghost use Rattle.cm_geo.specs.Addresses.{slot_at};
 ghost use Rattle.cm_plain.specs.Slots.{word_at};
 ghost use Rattle.cm_words.specs.Memory.{MemSeen, FitsNotes, MayStore};
-ghost use Rattle.cm_words.specs.Meters.{Goes, MakesEvent};
+ghost use Rattle.cm_words.specs.Meters.{ReportsDeath, MakesEvent};
 ghost use Rattle.cm_words.specs.Effects.{IsAsBefore, Reads, Writes};
-ghost use Rattle.cm_words.specs.declared.standing.Standing.TheVariants.{Closed, Writable};
+ghost use Rattle.cm_words.specs.declared.access.Access.TheVariants.{Closed, Writable};
 ghost use Rattle.cm_words.specs.declared.fuse.EventKind.TheVariants.{Load, Store};
 ghost use Rattle.cm_lookup.specs.Probing.{AreHalves};
 ghost use Rattle.cm_lookup.specs.Removals.{MayShift, Removes, ShiftedPart};
@@ -18,12 +18,12 @@ use cm_words::{Dead, Mem};
 
 /// The two halves of a slot's word.
 pub fn slot_of<M: Mem>(mem: &mut M, geo: &Geo, place: u32, slot: u32) -> Result<SlotParts, Dead>
-    requires open { (M.seen mem.old).setting.standing ≢ Closed }
+    requires open { (M.seen mem.old).setting.access ≢ Closed }
     requires geo { (M.seen mem.old).setting.geo ≡ geo.now }
     requires place { place < geo.now.tiers }
     requires slot { slot < 2 * geo.now.chunks }
     ensures rest { M.same_rest mem.old mem.new }
-    ensures goes { Goes (M.seen mem.old).meter (M.seen mem.new).meter result }
+    ensures fuse { ReportsDeath (M.seen mem.old).meter (M.seen mem.new).meter result }
     ensures reads { Reads (M.seen mem.old) (M.seen mem.new) }
     ensures event { MakesEvent Load (M.seen mem.old).meter (M.seen mem.new).meter result }
     ensures parts { IfOk result (λ parts. (words : List ℕ) → FitsNotes (M.seen mem.new) words → AreHalves (word_at words (slot_at geo.now place slot)) parts) }
@@ -45,14 +45,14 @@ pub fn put_slot<M: Mem>(
     fingerprint: u32,
     chunk: u32,
 ) -> Result<(), Dead>
-    requires writable { (M.seen mem.old).setting.standing ≡ Writable }
+    requires writable { (M.seen mem.old).setting.access ≡ Writable }
     requires geo { (M.seen mem.old).setting.geo ≡ geo.now }
     requires place { place < geo.now.tiers }
     requires slot { slot < 2 * geo.now.chunks }
     requires chunk { chunk < geo.now.chunks }
     requires allowed { MayStore (M.seen mem.old) (slot_at geo.now place slot) (slot_word fingerprint chunk) }
     ensures rest { M.same_rest mem.old mem.new }
-    ensures goes { Goes (M.seen mem.old).meter (M.seen mem.new).meter result }
+    ensures fuse { ReportsDeath (M.seen mem.old).meter (M.seen mem.new).meter result }
     ensures event { MakesEvent Store (M.seen mem.old).meter (M.seen mem.new).meter result }
     ensures put { OnOk result (Writes (M.seen mem.old) (M.seen mem.new) ((slot_at geo.now place slot, slot_word fingerprint chunk) ∷ [])) }
     ensures dead { OnErr result (IsAsBefore (M.seen mem.old) (M.seen mem.new)) }
@@ -69,13 +69,13 @@ pub fn put_slot<M: Mem>(
 /// hole, and the last hole is emptied at the end.
 #[tactic(auto, using(crate::proofs::Tiers::slot_inner))]
 pub fn remove_at<M: Mem>(mem: &mut M, geo: &Geo, place: u32, slot: u32) -> Result<(), Dead>
-    requires writable { (M.seen mem.old).setting.standing ≡ Writable }
+    requires writable { (M.seen mem.old).setting.access ≡ Writable }
     requires geo { (M.seen mem.old).setting.geo ≡ geo.now }
     requires place { place < geo.now.tiers }
     requires slot { slot < 2 * geo.now.chunks }
     requires allowed { MayShift (M.seen mem.old) geo.now place slot }
     ensures rest { M.same_rest mem.old mem.new }
-    ensures goes { Goes (M.seen mem.old).meter (M.seen mem.new).meter result }
+    ensures fuse { ReportsDeath (M.seen mem.old).meter (M.seen mem.new).meter result }
     ensures removed { OnOk result (Removes (M.seen mem.old) (M.seen mem.new) geo.now place slot) }
     ensures dead { OnErr result (ShiftedPart (M.seen mem.old) (M.seen mem.new) geo.now place slot) }
 {

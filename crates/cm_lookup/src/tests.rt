@@ -2,7 +2,7 @@
 
 ghost use Rattle.std.specs.Prelude.{◌≡◌, ◌*◌, ◌<◌, OnOk, false};
 ghost use Rattle.cm_words.specs.Memory.{MemSeen};
-ghost use Rattle.cm_words.specs.declared.standing.Standing.TheVariants.{Writable};
+ghost use Rattle.cm_words.specs.declared.access.Access.TheVariants.{Writable};
 
 use crate::{Hit, find, put_slot, remove_at, slot_of};
 use cm_geo::Geo;
@@ -10,9 +10,9 @@ use cm_words::{Dead, Mem, Never, PlainMem, Words};
 use std::test::Fail;
 
 // Puts a fingerprint into a slot, where anything may be stored.
-#[tactic(auto, using(crate::proofs::Moving::free_of_rules))]
+#[tactic(auto, using(crate::proofs::RemovalLoop::free_of_rules))]
 fn put<M: Mem>(mem: &mut M, geo: &Geo, slot: u32, fingerprint: u32) -> Result<(), Dead>
-    requires writable { (M.seen mem.old).setting.standing ≡ Writable }
+    requires writable { (M.seen mem.old).setting.access ≡ Writable }
     requires geo { (M.seen mem.old).setting.geo ≡ geo.now }
     requires free { (M.seen mem.old).setting.guarded ≡ false }
     requires chunks { geo.now.chunks ≡ 64 }
@@ -23,9 +23,9 @@ fn put<M: Mem>(mem: &mut M, geo: &Geo, slot: u32, fingerprint: u32) -> Result<()
 }
 
 // Removes a slot, where anything may be stored.
-#[tactic(auto, using(crate::proofs::Moving::free_of_rules))]
+#[tactic(auto, using(crate::proofs::RemovalLoop::free_of_rules))]
 fn remove<M: Mem>(mem: &mut M, geo: &Geo, slot: u32) -> Result<(), Dead>
-    requires writable { (M.seen mem.old).setting.standing ≡ Writable }
+    requires writable { (M.seen mem.old).setting.access ≡ Writable }
     requires geo { (M.seen mem.old).setting.geo ≡ geo.now }
     requires free { (M.seen mem.old).setting.guarded ≡ false }
     requires chunks { geo.now.chunks ≡ 64 }
@@ -117,7 +117,7 @@ fn rebuilt(table: &Table, slot: u32) -> Table {
 
 // The slots of the first tier.
 fn read<M: Mem>(mem: &mut M, geo: &Geo) -> Result<Table, Dead>
-    requires writable { (M.seen mem.old).setting.standing ≡ Writable }
+    requires writable { (M.seen mem.old).setting.access ≡ Writable }
     requires geo { (M.seen mem.old).setting.geo ≡ geo.now }
     requires chunks { geo.now.chunks ≡ 64 }
 {
@@ -133,7 +133,7 @@ fn read<M: Mem>(mem: &mut M, geo: &Geo) -> Result<Table, Dead>
 
 // Puts a whole table into the first tier.
 fn write<M: Mem>(mem: &mut M, geo: &Geo, table: &Table) -> Result<(), Dead>
-    requires writable { (M.seen mem.old).setting.standing ≡ Writable }
+    requires writable { (M.seen mem.old).setting.access ≡ Writable }
     requires geo { (M.seen mem.old).setting.geo ≡ geo.now }
     requires free { (M.seen mem.old).setting.guarded ≡ false }
     requires chunks { geo.now.chunks ≡ 64 }

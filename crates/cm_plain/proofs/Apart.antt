@@ -79,7 +79,7 @@ apart_places geo entry other inside inside' differ =
 some_parts : (size whole : ℕ) → 1 ≤ size → 1 ≤ whole → 1 ≤ parts_for size whole
 some_parts size whole h k = elim (cases_lt ((whole + size - 1) / size) 1) [
   | inl none ↦ let below : whole + size - 1 < 1 * size = (div-lt_iff_lt-mul h).0 none in absurd (omega (arith, below))
-  | inr some ↦ some
+  | inr nonzero ↦ nonzero
 ]
 
 -- so an entry takes a chunk at least
@@ -155,29 +155,29 @@ start_same geo one other place chunk = rw (place, chunk) refl
 -- a shorter run in the same place is apart from whatever the longer one was
 pub shorter : (geo : Geo) (old entry other : Placed) → entry.place ≡ old.place → entry.chunk ≡ old.chunk → chunks_of geo entry ≤ chunks_of geo old
     → IsApart geo other old → IsApart geo other entry
-shorter geo old entry other place chunk few apart =
-    by_numbers (run_start geo other) (chunks_of geo other) (run_start geo old) (chunks_of geo old) (chunks_of geo entry) (run_start geo entry) (start_same geo entry old place chunk) few apart
+shorter geo old entry other place chunk within_limit apart =
+    by_numbers (run_start geo other) (chunks_of geo other) (run_start geo old) (chunks_of geo old) (chunks_of geo entry) (run_start geo entry) (start_same geo entry old place chunk) within_limit apart
   where
     by_numbers : (at n start long short start' : ℕ) → start' ≡ start → short ≤ long → (at + n ≤ start) ⊎ (start + long ≤ at) → (at + n ≤ start') ⊎ (start' + short ≤ at)
-    by_numbers at n start long short start' e few apart = grind arith
+    by_numbers at n start long short start' e within_limit apart = grind arith
 
 -- a longer run in the same place is apart from what the shorter one and the chunks behind it are apart from
 pub longer : (geo : Geo) (old entry other : Placed) → entry.place ≡ old.place → entry.chunk ≡ old.chunk → chunks_of geo old ≤ chunks_of geo entry
     → HasRun geo other → entry.chunk + chunks_of geo entry ≤ geo.chunks
     → meets geo old.place (old.chunk + chunks_of geo old) (chunks_of geo entry - chunks_of geo old) other ≡ false
     → IsApart geo other old → IsApart geo other entry
-longer geo old entry other place chunk many run inside e apart = elim (cases_eq other.place entry.place) [
+longer geo old entry other place chunk length_is run inside e apart = elim (cases_eq other.place entry.place) [
   | inl same ↦
       let behind = not_met other.place old.place other.chunk (chunks_of geo other) (old.chunk + chunks_of geo old) (chunks_of geo entry - chunks_of geo old) e (same ∙ place) in
       in_tier other.place entry.place geo.chunks other.chunk (chunks_of geo other) entry.chunk (chunks_of geo entry) same
-      (joined other.chunk (chunks_of geo other) old.chunk (chunks_of geo old) (chunks_of geo entry) entry.chunk chunk many (chunks_some geo other) behind
+      (joined other.chunk (chunks_of geo other) old.chunk (chunks_of geo old) (chunks_of geo entry) entry.chunk chunk length_is (chunks_some geo other) behind
       (out_tier other.place old.place geo.chunks other.chunk (chunks_of geo other) old.chunk (chunks_of geo old) (same ∙ place) apart))
   | inr differ ↦ apart_places geo other entry run.inside inside differ
 ]
   where
     joined : (at n start short long start' : ℕ) → start' ≡ start → short ≤ long → 1 ≤ n → (at + n ≤ start + short) ⊎ (start + short + (long - short) ≤ at)
         → (at + n ≤ start) ⊎ (start + short ≤ at) → (at + n ≤ start') ⊎ (start' + long ≤ at)
-    joined at n start short long start' e many some behind apart = grind arith
+    joined at n start short long start' e length_is nonzero behind apart = grind arith
 
     out_tier : (place place' tier chunk chunks chunk' chunks' : ℕ) → place ≡ place'
         → (place * tier + chunk + chunks ≤ place' * tier + chunk') ⊎ (place' * tier + chunk' + chunks' ≤ place * tier + chunk)

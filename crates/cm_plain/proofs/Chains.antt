@@ -72,7 +72,7 @@ lowest_outside geo chain short =
     let first = first_in (is_unlinked chain) 0 geo.tiers in
     elim (cases_eq (lowest_unlinked geo chain) geo.tiers) [
       | inl none ↦ absurd (omega (arith, all_linked chain geo.tiers (first.fails none)))
-      | inr some ↦
+      | inr nonzero ↦
           let below : lowest_unlinked geo chain < geo.tiers = omega (arith, first.within) in
           record { below = below; unlinked = at_same (is_unlinked chain) (lowest_unlinked geo chain) (0 + lowest_unlinked geo chain) true (omega arith) (first.passes below) }
     ]
@@ -92,7 +92,7 @@ first_stays (linked ∷ chain) place e = e
 pub chain_with : (geo : Geo) (chain : List ℕ) (place : ℕ) → IsChain geo chain → length chain < geo.tiers → IsOutside geo chain place → IsChain geo (chain ++ place ∷ [])
 chain_with geo chain place is short outside = record {
   first = first_stays chain place is.first;
-  few = omega (arith, length_push chain place);
+  within_limit = omega (arith, length_push chain place);
   inside = All-push (λ it. it < geo.tiers) chain place is.inside outside.below;
   apart = all_pairs_push (λ it other. it ≢ other) chain place is.apart (All-from_recursion (λ it. it ≢ place) chain (each_other chain place outside.unlinked));
 }

@@ -35,7 +35,7 @@ few_entries geo segment state is =
     let placed = each_placed is in
     let ends = each_weaker (IsPlaced geo segment state.chain) (λ entry. run_end geo entry ≤ geo.tiers * geo.chunks) (λ entry h. ends_within geo segment state.chain entry is.chain h) state.entries placed in
     let starts = each_weaker (IsPlaced geo segment state.chain) (λ entry. 0 ≤ run_start geo entry) (λ entry h. omega arith) state.entries placed in
-    let few = counted geo 0 (geo.tiers * geo.chunks) state.entries (omega arith) (each_rising is) starts ends in
+    let within_limit = counted geo 0 (geo.tiers * geo.chunks) state.entries (omega arith) (each_rising is) starts ends in
     let chunks : geo.chunks ≤ 4096 = (chunks_range geo).1 in
     let tiers : geo.tiers ≤ 8 = (tiers_range geo).1 in
-    omega (arith, few, mul-le-mul_left geo.tiers chunks, tiers)
+    omega (arith, within_limit, mul-le-mul_left geo.tiers chunks, tiers)

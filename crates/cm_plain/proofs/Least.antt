@@ -13,7 +13,7 @@ use Rattle.std.proofs.lemmas.List.Sorted.{ranks_by}
 use Rattle.std.proofs.lemmas.List.Elements.{All-from_recursion}
 use Rattle.std.proofs.lemmas.Slice.Eq.{bytes_eq-Decides}
 use Rattle.cm_plain.specs.declared.placed.Placed.{Placed}
-use Rattle.cm_plain.specs.States.{found_among}
+use Rattle.cm_plain.specs.States.{entry_among}
 use Rattle.cm_plain.specs.Steps.{has_prefix}
 use Rattle.cm_plain.specs.Segments.{IsLeastKey}
 use Rattle.cm_plain.proofs.Each.{each_weaker}
@@ -104,13 +104,13 @@ none_with prefix (entry ∷ entries) e = elim (cases_Bool (has_prefix prefix ent
 ]
 
 -- each entry is found by its key
-each_found : (entries : List Placed) → AllByRecursion (λ entry. is_some (found_among entry.key entries) ≡ true) entries
+each_found : (entries : List Placed) → AllByRecursion (λ entry. is_some (entry_among entry.key entries) ≡ true) entries
 each_found [] = tt
 each_found (entry ∷ entries) =
-    let here : is_some (found_among entry.key (entry ∷ entries)) ≡ true = rw ((bytes_eq-Decides entry.key entry.key).1 refl) refl in
-    (here, each_weaker (λ (other : Placed). is_some (found_among other.key entries) ≡ true) (λ (other : Placed). is_some (found_among other.key (entry ∷ entries)) ≡ true) (found_later entry entries) entries (each_found entries))
+    let here : is_some (entry_among entry.key (entry ∷ entries)) ≡ true = rw ((bytes_eq-Decides entry.key entry.key).1 refl) refl in
+    (here, each_weaker (λ (other : Placed). is_some (entry_among other.key entries) ≡ true) (λ (other : Placed). is_some (entry_among other.key (entry ∷ entries)) ≡ true) (found_later entry entries) entries (each_found entries))
   where
-    found_later : (entry : Placed) (entries : List Placed) (other : Placed) → is_some (found_among other.key entries) ≡ true → is_some (found_among other.key (entry ∷ entries)) ≡ true
+    found_later : (entry : Placed) (entries : List Placed) (other : Placed) → is_some (entry_among other.key entries) ≡ true → is_some (entry_among other.key (entry ∷ entries)) ≡ true
     found_later entry entries other h = elim (cases_Bool (bytes_eq entry.key other.key)) [
       | inl same ↦ rw same refl
       | inr differs ↦ rw differs h
@@ -122,7 +122,7 @@ by_keys : (prefix : List ℕ) (entries : List Placed) (keys : List (List ℕ)) �
 by_keys prefix entries [] e = All-from_recursion (λ (entry : Placed). has_prefix prefix entry.key ≡ false) entries (none_with prefix entries e)
 by_keys prefix entries (first ∷ keys) e =
     let least = fold lesser first keys in
-    let Found : List ℕ → Type 0 = λ key. is_some (found_among key entries) ≡ true in
+    let Found : List ℕ → Type 0 = λ key. is_some (entry_among key entries) ≡ true in
     let Both : List ℕ → Type 0 = λ key. Found key × (has_prefix prefix key ≡ true) in
     let each = subst (AllByRecursion Both) e (each_with Found prefix entries (each_found entries)) in
     let has = least_has Both first keys each.0 each.1 in

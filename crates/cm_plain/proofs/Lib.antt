@@ -4,7 +4,7 @@ pub mod Each
 pub mod Keys
 pub mod Apart
 pub mod States
-pub mod Seen
+pub mod SegmentState
 pub mod Chains
 pub mod Placing
 pub mod Splits
@@ -13,7 +13,7 @@ pub mod Least
 pub mod Taking
 pub mod Sweeping
 pub mod Counted
-pub mod Standing
-pub mod Telling
-pub mod Filling
-pub mod Resting
+pub mod OutsideHead
+pub mod OneState
+pub mod Padding
+pub mod RestingTorn

@@ -15,7 +15,7 @@ use Rattle.cm_plain.specs.declared.placed.Placed.{Placed}
 use Rattle.cm_plain.specs.declared.room.Spot.{Spot}
 use Rattle.cm_plain.specs.declared.room.Room.{Room}
 use Rattle.cm_plain.specs.declared.room.Room.TheVariants.{InPlace, Elsewhere, NewTier, Nowhere}
-use Rattle.cm_plain.specs.States.{HasRun, IsChain, IsPlaced, IsState, State, chunks_of, found, run_start}
+use Rattle.cm_plain.specs.States.{HasRun, IsChain, IsPlaced, IsState, State, chunks_of, entry_of, run_start}
 use Rattle.cm_plain.specs.Rooms.{can_stay, first_fit, fit_among, is_free, least_free, lowest_unlinked, meets, room_apart, room_beside, room_for, spot_at, spot_in}
 use Rattle.cm_plain.specs.Changes.{entry_at, with_entry, without}
 use Rattle.cm_plain.proofs.Each.{Pairs, across_tests, all_from_pairs, each_append, each_both, each_filter, each_kept, each_weaker, found_has, found_passes, pairs_append, pairs_kept}
@@ -118,22 +118,22 @@ others_than_free : (geo : Geo) (old entry : Placed) (key : List ℕ) (entries : 
     → chunks_of geo old ≤ chunks_of geo entry → entry.chunk + chunks_of geo entry ≤ geo.chunks → AllByRecursion (HasRun geo) entries
     → AllByRecursion (λ other. meets geo old.place (old.chunk + chunks_of geo old) (chunks_of geo entry - chunks_of geo old) other ≡ false) entries
     → AllByRecursion (λ other. is_at key other ≡ false → IsApart geo other old) entries → AllByRecursion (λ other. IsApart geo other entry) (without key entries)
-others_than_free geo old entry key entries place chunk many inside runs alone others =
+others_than_free geo old entry key entries place chunk length_is inside runs alone others =
     let Behind : Placed → Type 0 = λ other. HasRun geo other × (meets geo old.place (old.chunk + chunks_of geo old) (chunks_of geo entry - chunks_of geo old) other ≡ false) in
     each_kept (λ other. Behind other × (is_at key other ≡ false → IsApart geo other old)) (λ other. IsApart geo other entry) (λ other. not (is_at key other))
-    (λ other h e. longer geo old entry other place chunk many h.0.0 inside h.0.1 (h.1 (not-true (is_at key other) e))) entries
+    (λ other h e. longer geo old entry other place chunk length_is h.0.0 inside h.0.1 (h.1 (not-true (is_at key other) e))) entries
     (each_both Behind (λ other. is_at key other ≡ false → IsApart geo other old) (λ other. Behind other × (is_at key other ≡ false → IsApart geo other old)) (λ other r a. (r, a)) entries
     (each_both (HasRun geo) (λ other. meets geo old.place (old.chunk + chunks_of geo old) (chunks_of geo entry - chunks_of geo old) other ≡ false) Behind (λ other r m. (r, m)) entries runs alone) others)
 
 -- where the old value stands
-at_old : (geo : Geo) (segment : ℕ) (state : State) (key value : List ℕ) (old : Placed) → IsState geo segment state → found key state ≡ Some old
+at_old : (geo : Geo) (segment : ℕ) (state : State) (key value : List ℕ) (old : Placed) → IsState geo segment state → entry_of key state ≡ Some old
     → can_stay geo state.entries old (need geo (length key) (length value)) ≡ true → Goes geo (without key state.entries) state.chain (entry_at key value old.place old.chunk)
 at_old geo segment state key value old is e stay =
     let entry : Placed = entry_at key value old.place old.chunk in
     let here : IsPlaced geo segment state.chain old = found_has (IsPlaced geo segment state.chain) (is_at key) state.entries old (each_placed is) e in
     let others = others_apart geo (is_at key) state.entries old (each_rising is) e in
     elim (cases_Bool (nat_le (chunks_of geo entry) (chunks_of geo old))) [
-      | inl few ↦
+      | inl within_limit ↦
           let fewer : chunks_of geo entry ≤ chunks_of geo old = grind (arith, nat_tests) in
           record {
             chain_is = is.chain;
@@ -141,9 +141,9 @@ at_old geo segment state key value old is e stay =
             chained = here.chained;
             apart = others_than geo old entry key state.entries (λ other r apart. shorter geo old entry other refl refl fewer apart) (each_run is) others;
           }
-      | inr many ↦
+      | inr length_is ↦
           let more : chunks_of geo old ≤ chunks_of geo entry = grind (arith, nat_tests) in
-          let free = free_run geo state.entries old.place (old.chunk + chunks_of geo old) (chunks_of geo entry - chunks_of geo old) (rw many at stay) in
+          let free = free_run geo state.entries old.place (old.chunk + chunks_of geo old) (chunks_of geo entry - chunks_of geo old) (rw length_is at stay) in
           let inside : entry.chunk + chunks_of geo entry ≤ geo.chunks = ends_at old.chunk (chunks_of geo old) (chunks_of geo entry) geo.chunks more free.inside in
           record {
             chain_is = is.chain;
@@ -185,7 +185,7 @@ goes_apart geo segment state key value old spot is fits None e at = elim (cases_
 
 -- a value goes to its room, beside its old place
 goes_beside : (geo : Geo) (segment : ℕ) (state : State) (key value : List ℕ) (spot : Spot) → IsState geo segment state → Fits geo (length key) (length value)
-    → (old : Option Placed) → found key state ≡ old → spot_in (room_beside geo state old (need geo (length key) (length value))) old ≡ Some spot
+    → (old : Option Placed) → entry_of key state ≡ old → spot_in (room_beside geo state old (need geo (length key) (length value))) old ≡ Some spot
     → GoesTo geo state key value (room_beside geo state old (need geo (length key) (length value))) spot
 goes_beside geo segment state key value spot is fits None e at =
     goes_apart geo segment state key value None spot is fits (first_fit geo state (need geo (length key) (length value))) refl at
@@ -236,15 +236,15 @@ in_longer Nowhere chain at c = c
 
 -- how an entry goes to its room
 pub goes_in : (geo : Geo) (segment : ℕ) (state : State) (key value : List ℕ) (spot : Spot) → IsState geo segment state → Fits geo (length key) (length value)
-    → (room : Room) → room_for geo state key (need geo (length key) (length value)) ≡ room → spot_in room (found key state) ≡ Some spot
+    → (room : Room) → room_for geo state key (need geo (length key) (length value)) ≡ room → spot_in room (entry_of key state) ≡ Some spot
     → Goes geo (without key state.entries) (chain_for room state.chain) (entry_at key value spot.place spot.chunk)
 goes_in geo segment state key value spot is fits room room_is at =
-    let at' : spot_in (room_for geo state key (need geo (length key) (length value))) (found key state) ≡ Some spot = rw room_is at in
-    (subst (λ (it : Room). GoesTo geo state key value it spot) room_is (goes_beside geo segment state key value spot is fits (found key state) refl at')).goes
+    let at' : spot_in (room_for geo state key (need geo (length key) (length value))) (entry_of key state) ≡ Some spot = rw room_is at in
+    (subst (λ (it : Room). GoesTo geo state key value it spot) room_is (goes_beside geo segment state key value spot is fits (entry_of key state) refl at')).goes
 
 -- so its run begins where no other does
 pub starts_apart : (geo : Geo) (segment : ℕ) (state : State) (key value : List ℕ) (spot : Spot) → IsState geo segment state → Fits geo (length key) (length value)
-    → (room : Room) → room_for geo state key (need geo (length key) (length value)) ≡ room → spot_in room (found key state) ≡ Some spot
+    → (room : Room) → room_for geo state key (need geo (length key) (length value)) ≡ room → spot_in room (entry_of key state) ≡ Some spot
     → All (λ other. run_start geo other ≢ run_start geo (entry_at key value spot.place spot.chunk)) (without key state.entries)
 starts_apart geo segment state key value spot is fits room room_is at =
     let entry : Placed = entry_at key value spot.place spot.chunk in
@@ -269,12 +269,12 @@ pub rising_without : (geo : Geo) (segment : ℕ) (state : State) (key : List ℕ
 rising_without geo segment state key is = all_from_pairs (Rising geo) (without key state.entries) (others_rising key is)
 
 -- an entry that is found has a run
-pub found_run : (geo : Geo) (segment : ℕ) (state : State) (key : List ℕ) (old : Placed) → IsState geo segment state → found key state ≡ Some old → HasRun geo old
+pub found_run : (geo : Geo) (segment : ℕ) (state : State) (key : List ℕ) (old : Placed) → IsState geo segment state → entry_of key state ≡ Some old → HasRun geo old
 found_run geo segment state key old is e = found_has (HasRun geo) (is_at key) state.entries old (each_run is) e
 
 -- the state with the value in its room is a state
 pub placed_state : (geo : Geo) (segment : ℕ) (state : State) (key value : List ℕ) (spot : Spot) → IsState geo segment state → Fits geo (length key) (length value)
-    → segment_of_key geo key ≡ segment → (room : Room) → room_for geo state key (need geo (length key) (length value)) ≡ room → spot_in room (found key state) ≡ Some spot
+    → segment_of_key geo key ≡ segment → (room : Room) → room_for geo state key (need geo (length key) (length value)) ≡ room → spot_in room (entry_of key state) ≡ Some spot
     → IsState geo segment (record { chain = chain_for room state.chain; entries = with_entry geo (entry_at key value spot.place spot.chunk) (without key state.entries) })
 placed_state geo segment state key value spot is fits here room room_is at =
     let entry : Placed = entry_at key value spot.place spot.chunk in

@@ -11,10 +11,10 @@ use Rattle.cm_plain.specs.declared.reply.Reply.TheVariants as reply
 use Rattle.cm_plain.specs.declared.room.Spot.{Spot}
 use Rattle.cm_plain.specs.declared.room.Room.{Room}
 use Rattle.cm_plain.specs.declared.room.Room.TheVariants.{InPlace, Elsewhere, NewTier, Nowhere}
-use Rattle.cm_plain.specs.States.{IsState, State, found}
+use Rattle.cm_plain.specs.States.{IsState, State, entry_of}
 use Rattle.cm_plain.specs.Rooms.{is_new_tier, is_nowhere, room_for, spot_in}
-use Rattle.cm_plain.specs.Changes.{after, entry_at, kind_in, placing, planned, with_entry, without}
-use Rattle.cm_plain.specs.Steps.{Plans, Step, Course, StepBy, course, goes, is_change, last_number, reply_of}
+use Rattle.cm_plain.specs.Changes.{after, entry_at, kind_in, placing_change, planned_change, with_entry, without}
+use Rattle.cm_plain.specs.Steps.{Plans, Step, Decision, StepAs, decision, changes_state, is_change, last_number, reply_of}
 use Rattle.cm_plain.specs.declared.rooms.Placing.{Placing}
 use Rattle.cm_plain.specs.Placings.{IsPlacing}
 use Rattle.cm_plain.specs.Segments.{IsSegment, Places, PlacesFor, Segment}
@@ -22,7 +22,7 @@ use Rattle.cm_plain.specs.States.{run_start}
 use Rattle.std.specs.List.{All}
 use Rattle.std.proofs.lemmas.Option.{same_Some}
 use Rattle.cm_plain.proofs.Placing.{chain_for, placed_state, starts_apart}
-use Rattle.cm_plain.proofs.Seen.{next_counted}
+use Rattle.cm_plain.proofs.SegmentState.{next_counted}
 
 -- the chain after a value went to its room
 pub chain_is : (room : Room) (old : Option Placed) (spot : Spot) (chain : List ℕ) → spot_in room old ≡ Some spot
@@ -39,7 +39,7 @@ state_with geo state key value room spot =
 
 -- the state after a change that places a value is the one with the value in its room
 after_is : (geo : Geo) (state : State) (op : Op) (key value : List ℕ) (room : Room) (old : Option Placed) (chunks : ℕ) (spot : Spot) → spot_in room old ≡ Some spot
-    → after geo (placing geo op key value old room chunks) state ≡ state_with geo state key value room spot
+    → after geo (placing_change geo op key value old room chunks) state ≡ state_with geo state key value room spot
 after_is geo state op key value InPlace None chunks spot e = cc e
 after_is geo state op key value InPlace (Some old) chunks spot e = ap (λ (s : Spot). state_with geo state key value InPlace s) (same_Some _ spot e)
 after_is geo state op key value (Elsewhere there) old chunks spot e = ap (λ (s : Spot). state_with geo state key value (Elsewhere there) s) (same_Some _ spot e)
@@ -74,15 +74,15 @@ is_change_beside false = refl
 -- a value that was placed was placed by one step
 pub step_placed : (seen : Segment) (grant : Bool) (key value : List ℕ) (room : Room) (spot : Spot) (op : Op) → IsState seen.geo seen.segment seen.state
     → Fits seen.geo (length key) (length value) → segment_of_key seen.geo key ≡ seen.segment → room_for seen.geo seen.state key (need seen.geo (length key) (length value)) ≡ room
-    → spot_in room (found key seen.state) ≡ Some spot → (seen.number == last_number) ≡ false → (is_new_tier room && not grant) ≡ false → PlacesFor seen key value op
-    → Step seen.geo seen.segment seen.state seen.number grant op (state_with seen.geo seen.state key value room spot) (reply_beside (is_some (found key seen.state)))
+    → spot_in room (entry_of key seen.state) ≡ Some spot → (seen.number == last_number) ≡ false → (is_new_tier room && not grant) ≡ false → PlacesFor seen key value op
+    → Step seen.geo seen.segment seen.state seen.number grant op (state_with seen.geo seen.state key value room spot) (reply_beside (is_some (entry_of key seen.state)))
 step_placed seen grant key value room spot op is fits here room_is at counts granted places =
     let geo = seen.geo in
     let state = seen.state in
     let chunks = need geo (length key) (length value) in
-    let old = found key state in
-    let change = placing geo op key value old room chunks in
-    let planned_is : change ≡ planned geo state op key = rw (places.placed, room_is) refl in
+    let old = entry_of key state in
+    let change = placing_change geo op key value old room chunks in
+    let planned_is : change ≡ planned_change geo state op key = rw (places.placed, room_is) refl in
     let later : after geo change state ≡ state_with geo state key value room spot = after_is geo state op key value room old chunks spot at in
     let leads : IsState geo seen.segment (after geo change state) = subst (IsState geo seen.segment) (sym later) (placed_state geo seen.segment state key value spot is fits here room room_is at) in
     let plans : Plans geo seen.segment state op change = record {
@@ -93,58 +93,58 @@ step_placed seen grant key value room spot op is fits here room_is at counts gra
       change_is = planned_is;
       leads = leads;
     } in
-    let course_is : course geo state seen.number grant op ≡ goes = rw (places.met, places.wanted, room_is, there_is room old spot at, counts, granted) refl in
-    subst (λ (it : Course). StepBy it geo seen.segment state op (state_with geo state key value room spot) (reply_beside (is_some old))) (sym course_is)
+    let course_is : decision geo state seen.number grant op ≡ changes_state = rw (places.met, places.wanted, room_is, there_is room old spot at, counts, granted) refl in
+    subst (λ (it : Decision). StepAs it geo seen.segment state op (state_with geo state key value room spot) (reply_beside (is_some old))) (sym course_is)
     (change, plans, sym later, sym (reply_is room old op key))
 
 -- the segment after a value went to its room
 abbrev pub segment_with : Segment → List ℕ → List ℕ → Placing → Segment
-segment_with seen key value placing = record {
+segment_with seen key value placing_change = record {
   geo = seen.geo;
   segment = seen.segment;
   number = seen.number + 1;
-  state = state_with seen.geo seen.state key value placing.room placing.spot;
+  state = state_with seen.geo seen.state key value placing_change.room placing_change.spot;
 }
 
 -- the run of a placed value begins where no other does
-pub placing_apart : (seen : Segment) (key value : List ℕ) (placing : Placing) → IsSegment seen → Fits seen.geo (length key) (length value)
-    → IsPlacing seen.geo seen.state key (length value) placing
-    → All (λ other. run_start seen.geo other ≢ run_start seen.geo (entry_at key value placing.spot.place placing.spot.chunk)) (without key seen.state.entries)
-placing_apart seen key value placing is fits placed =
-    starts_apart seen.geo seen.segment seen.state key value placing.spot is.rests fits placing.room placed.room_is placed.spot_is
+pub placing_apart : (seen : Segment) (key value : List ℕ) (placing_change : Placing) → IsSegment seen → Fits seen.geo (length key) (length value)
+    → IsPlacing seen.geo seen.state key (length value) placing_change
+    → All (λ other. run_start seen.geo other ≢ run_start seen.geo (entry_at key value placing_change.spot.place placing_change.spot.chunk)) (without key seen.state.entries)
+placing_apart seen key value placing_change is fits placed =
+    starts_apart seen.geo seen.segment seen.state key value placing_change.spot is.rests fits placing_change.room placed.room_is placed.spot_is
 
 -- the segment after a value went to its room is one
-pub is_segment_with : (seen : Segment) (key value : List ℕ) (placing : Placing) → IsSegment seen → Fits seen.geo (length key) (length value)
-    → segment_of_key seen.geo key ≡ seen.segment → IsPlacing seen.geo seen.state key (length value) placing → seen.number ≢ last_number
-    → IsSegment (segment_with seen key value placing)
-is_segment_with seen key value placing is fits here placed counts = record {
-  rests = placed_state seen.geo seen.segment seen.state key value placing.spot is.rests fits here placing.room placed.room_is placed.spot_is;
+pub is_segment_with : (seen : Segment) (key value : List ℕ) (placing_change : Placing) → IsSegment seen → Fits seen.geo (length key) (length value)
+    → segment_of_key seen.geo key ≡ seen.segment → IsPlacing seen.geo seen.state key (length value) placing_change → seen.number ≢ last_number
+    → IsSegment (segment_with seen key value placing_change)
+is_segment_with seen key value placing_change is fits here placed counts = record {
+  rests = placed_state seen.geo seen.segment seen.state key value placing_change.spot is.rests fits here placing_change.room placed.room_is placed.spot_is;
   counted = next_counted is counts;
 }
 
 -- the segment that was made is the one with the value
-pub same_segment : (seen : Segment) (key value : List ℕ) (placing : Placing) (links : Bool) (chain : List ℕ) (entries : List Placed)
-    → IsPlacing seen.geo seen.state key (length value) placing → links ≡ is_new_tier placing.room
-    → chain ≡ (if links then seen.state.chain ++ placing.spot.place ∷ [] else seen.state.chain)
-    → entries ≡ with_entry seen.geo (entry_at key value placing.spot.place placing.spot.chunk) (without key seen.state.entries)
-    → segment_with seen key value placing ≡ record { geo = seen.geo; segment = seen.segment; number = seen.number + 1; state = record { chain = chain; entries = entries } }
-same_segment seen key value placing links chain entries placed links_is chain_is' entries_is =
-    let e : chain ≡ chain_for placing.room seen.state.chain = rw links_is at chain_is' ∙ sym (chain_is placing.room (found key seen.state) placing.spot seen.state.chain placed.spot_is) in
+pub same_segment : (seen : Segment) (key value : List ℕ) (placing_change : Placing) (links : Bool) (chain : List ℕ) (entries : List Placed)
+    → IsPlacing seen.geo seen.state key (length value) placing_change → links ≡ is_new_tier placing_change.room
+    → chain ≡ (if links then seen.state.chain ++ placing_change.spot.place ∷ [] else seen.state.chain)
+    → entries ≡ with_entry seen.geo (entry_at key value placing_change.spot.place placing_change.spot.chunk) (without key seen.state.entries)
+    → segment_with seen key value placing_change ≡ record { geo = seen.geo; segment = seen.segment; number = seen.number + 1; state = record { chain = chain; entries = entries } }
+same_segment seen key value placing_change links chain entries placed links_is chain_is' entries_is =
+    let e : chain ≡ chain_for placing_change.room seen.state.chain = rw links_is at chain_is' ∙ sym (chain_is placing_change.room (entry_of key seen.state) placing_change.spot seen.state.chain placed.spot_is) in
     rw (e, entries_is) refl
 
 -- it answers each operation that places this value for this key
-pub places_with : (seen : Segment) (grant : Bool) (key value : List ℕ) (placing : Placing) (answer : Reply) → IsSegment seen → Fits seen.geo (length key) (length value)
-    → segment_of_key seen.geo key ≡ seen.segment → IsPlacing seen.geo seen.state key (length value) placing → (seen.number == last_number) ≡ false
-    → (is_new_tier placing.room && not grant) ≡ false → answer ≡ reply_beside placing.replaces → Places seen (segment_with seen key value placing) grant key value answer
-places_with seen grant key value placing answer is fits here placed counts granted answer_is =
-    let had = is_some (found key seen.state) in
+pub places_with : (seen : Segment) (grant : Bool) (key value : List ℕ) (placing_change : Placing) (answer : Reply) → IsSegment seen → Fits seen.geo (length key) (length value)
+    → segment_of_key seen.geo key ≡ seen.segment → IsPlacing seen.geo seen.state key (length value) placing_change → (seen.number == last_number) ≡ false
+    → (is_new_tier placing_change.room && not grant) ≡ false → answer ≡ reply_beside placing_change.replaces → Places seen (segment_with seen key value placing_change) grant key value answer
+places_with seen grant key value placing_change answer is fits here placed counts granted answer_is =
+    let had = is_some (entry_of key seen.state) in
     let replies : answer ≡ reply_beside had = answer_is ∙ ap reply_beside placed.replaces_is in
     record {
       answers = λ op places. record {
         geo_same = refl;
         segment_same = refl;
-        step = subst (λ (it : Reply). Step seen.geo seen.segment seen.state seen.number grant op (state_with seen.geo seen.state key value placing.room placing.spot) it) (sym replies)
-            (step_placed seen grant key value placing.room placing.spot op is.rests fits here placed.room_is placed.spot_is counts granted places);
+        step = subst (λ (it : Reply). Step seen.geo seen.segment seen.state seen.number grant op (state_with seen.geo seen.state key value placing_change.room placing_change.spot) it) (sym replies)
+            (step_placed seen grant key value placing_change.room placing_change.spot op is.rests fits here placed.room_is placed.spot_is counts granted places);
         number_is = rw (replies, is_change_beside had) refl;
       };
     }

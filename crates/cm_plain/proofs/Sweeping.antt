@@ -7,8 +7,8 @@ use Rattle.std.proofs.lemmas.List.Elements.{recursion_from_All}
 use Rattle.cm_plain.specs.declared.op.Op.TheVariants.{Sweep}
 use Rattle.cm_plain.specs.declared.placed.Placed.{Placed}
 use Rattle.cm_plain.specs.declared.reply.Reply.TheVariants as reply
-use Rattle.cm_plain.specs.States.{found_among}
-use Rattle.cm_plain.specs.Steps.{Course, StepBy, course, has_prefix, stays}
+use Rattle.cm_plain.specs.States.{entry_among}
+use Rattle.cm_plain.specs.Steps.{Decision, StepAs, decision, has_prefix, no_change}
 use Rattle.cm_plain.specs.Segments.{Answered, IsLeastKey, Segment, Sweeps, SweepsLeast, Takes, reply_to_taking}
 use Rattle.cm_plain.proofs.Keys.{key_tells}
 
@@ -22,7 +22,7 @@ none_any prefix [] h = refl
 none_any prefix (entry ∷ entries) h = rw h.0 (none_any prefix entries h.1)
 
 -- an entry that is found by a key with the prefix has it
-found_any : (prefix key : List ℕ) (entries : List Placed) → has_prefix prefix key ≡ true → is_some (found_among key entries) ≡ true → any_with prefix entries ≡ true
+found_any : (prefix key : List ℕ) (entries : List Placed) → has_prefix prefix key ≡ true → is_some (entry_among key entries) ≡ true → any_with prefix entries ≡ true
 found_any prefix key [] passes there = cc there
 found_any prefix key (entry ∷ entries) passes there = elim (cases_Bool (has_prefix prefix entry.key)) [
   | inl here ↦ rw here refl
@@ -37,11 +37,11 @@ pub sweeps_none : (seen : Segment) (prefix : List ℕ) → All (λ entry. has_pr
 sweeps_none seen prefix none = record {
   answers = λ segment grant.
       let unmet = none_any prefix seen.state.entries (recursion_from_All (λ (entry : Placed). has_prefix prefix entry.key ≡ false) seen.state.entries none) in
-      let course_is : course seen.geo seen.state seen.number grant (Sweep segment prefix) ≡ stays = rw unmet refl in
+      let course_is : decision seen.geo seen.state seen.number grant (Sweep segment prefix) ≡ no_change = rw unmet refl in
       record {
         geo_same = refl;
         segment_same = refl;
-        step = subst (λ (it : Course). StepBy it seen.geo seen.segment seen.state (Sweep segment prefix) seen.state reply.SweptAll) (sym course_is) (refl, refl);
+        step = subst (λ (it : Decision). StepAs it seen.geo seen.segment seen.state (Sweep segment prefix) seen.state reply.SweptAll) (sym course_is) (refl, refl);
         number_is = refl;
       };
   least = λ segment. tt;

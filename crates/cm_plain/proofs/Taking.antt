@@ -8,12 +8,12 @@ use Rattle.cm_plain.specs.declared.op.Op.TheVariants.{Put, Get, PutIfAbsent, Rep
 use Rattle.cm_plain.specs.declared.plan.PlanKind.TheVariants as kind
 use Rattle.cm_plain.specs.declared.reply.Reply.TheVariants as reply
 use Rattle.cm_plain.specs.declared.room.Room.TheVariants.{InPlace}
-use Rattle.cm_plain.specs.States.{State, found, value_of}
-use Rattle.cm_plain.specs.Changes.{placed_value, taking, without}
-use Rattle.cm_plain.specs.Steps.{Course, Plans, Step, StepBy, course, goes, is_change, is_value, is_worn, last_number, reply_of, room_wanted, unmet}
+use Rattle.cm_plain.specs.States.{State, entry_of, value_of}
+use Rattle.cm_plain.specs.Changes.{placed_value, removing_change, without}
+use Rattle.cm_plain.specs.Steps.{Decision, Plans, Step, StepAs, decision, changes_state, is_change, is_value, is_worn, last_number, reply_of, room_wanted, unmet_reply}
 use Rattle.cm_plain.specs.Segments.{Answered, IsSegment, Segment, Takes, TakesFor, reply_to_taking}
 use Rattle.cm_plain.proofs.Placing.{taken_state}
-use Rattle.cm_plain.proofs.Seen.{next_counted}
+use Rattle.cm_plain.proofs.SegmentState.{next_counted}
 
 -- an operation that places nothing wants no room
 no_room : (geo : Geo) (state : State) (op : Op) → placed_value op ≡ None → room_wanted geo state op ≡ InPlace
@@ -60,7 +60,7 @@ is_segment_without seen key is counts = record {
 step_taken : (seen : Segment) (grant : Bool) (key : List ℕ) (op : Op) → IsSegment seen → (seen.number == last_number) ≡ false → TakesFor seen key op
     → Step seen.geo seen.segment seen.state seen.number grant op (state_without seen.state key) (reply_of kind.Remove op key)
 step_taken seen grant key op is counts takes =
-    let change = taking seen.geo op key (found key seen.state) in
+    let change = removing_change seen.geo op key (entry_of key seen.state) in
     let plans : Plans seen.geo seen.segment seen.state op change = record {
       is_state = is.rests;
       met = takes.met;
@@ -69,16 +69,16 @@ step_taken seen grant key op is counts takes =
       change_is = rw takes.taken refl;
       leads = taken_state seen.geo seen.segment seen.state key is.rests;
     } in
-    let course_is : course seen.geo seen.state seen.number grant op ≡ goes = rw (takes.met, no_room seen.geo seen.state op takes.taken, counts) refl in
-    subst (λ (it : Course). StepBy it seen.geo seen.segment seen.state op (state_without seen.state key) (reply_of kind.Remove op key)) (sym course_is)
+    let course_is : decision seen.geo seen.state seen.number grant op ≡ changes_state = rw (takes.met, no_room seen.geo seen.state op takes.taken, counts) refl in
+    subst (λ (it : Decision). StepAs it seen.geo seen.segment seen.state op (state_without seen.state key) (reply_of kind.Remove op key)) (sym course_is)
     (change, plans, refl, refl)
 
 -- where no number is left, no entry is taken
 step_worn : (seen : Segment) (grant : Bool) (key : List ℕ) (op : Op) → (seen.number == last_number) ≡ true → TakesFor seen key op
     → Step seen.geo seen.segment seen.state seen.number grant op seen.state (reply_to_taking false op key)
 step_worn seen grant key op worn takes =
-    let course_is : course seen.geo seen.state seen.number grant op ≡ is_worn = rw (takes.met, no_room seen.geo seen.state op takes.taken, worn) refl in
-    subst (λ (it : Course). StepBy it seen.geo seen.segment seen.state op seen.state (reply_to_taking false op key)) (sym course_is) (refl, refl)
+    let course_is : decision seen.geo seen.state seen.number grant op ≡ is_worn = rw (takes.met, no_room seen.geo seen.state op takes.taken, worn) refl in
+    subst (λ (it : Decision). StepAs it seen.geo seen.segment seen.state op seen.state (reply_to_taking false op key)) (sym course_is) (refl, refl)
 
 -- it answers each operation that takes this key's entry away
 pub takes_without : (seen : Segment) (key : List ℕ) → IsSegment seen → (seen.number == last_number) ≡ false → Takes seen (segment_without seen key) key true
@@ -123,7 +123,7 @@ remove_answered old new grant key taken none takes =
     replies false = refl
 
 -- a key whose value is the expected one
-is_expected : (value : Option (List ℕ)) (expected : List ℕ) → None ≡ (if is_value value expected then None else Some (unmet value)) → is_value value expected ≡ true
+is_expected : (value : Option (List ℕ)) (expected : List ℕ) → None ≡ (if is_value value expected then None else Some (unmet_reply value)) → is_value value expected ≡ true
 is_expected value expected e = elim (cases_Bool (is_value value expected)) [
   | inl same ↦ same
   | inr differs ↦ let no = rw differs at e in cc no
@@ -131,7 +131,7 @@ is_expected value expected e = elim (cases_Bool (is_value value expected)) [
 
 -- what is answered to a removal where a value is expected
 pub remove_if_answered : (old new : Segment) (grant : Bool) (key expected : List ℕ) (taken : Bool)
-    → (let value = value_of key old.state in None ≡ (if is_value value expected then None else Some (unmet value)))
+    → (let value = value_of key old.state in None ≡ (if is_value value expected then None else Some (unmet_reply value)))
     → Takes old new key taken → Answered old new grant (RemoveIf key expected) (if taken then reply.Removed else reply.Worn)
 remove_if_answered old new grant key expected taken none takes =
     removal_answered old new grant key taken (RemoveIf key expected) replies (record { met = is_expected (value_of key old.state) expected none; taken = refl; keyed = refl }) takes

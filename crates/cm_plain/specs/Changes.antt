@@ -11,7 +11,7 @@ use Rattle.cm_plain.specs.declared.plan.PlanKind.{PlanKind}
 use Rattle.cm_plain.specs.declared.plan.PlanKind.TheVariants as kind
 use Rattle.cm_plain.specs.declared.placed.Placed.{Placed}
 use Rattle.cm_plain.specs.States.{State}
-use Rattle.cm_plain.specs.States.{chunks_of, found, run_start}
+use Rattle.cm_plain.specs.States.{chunks_of, entry_of, run_start}
 use Rattle.cm_plain.specs.declared.room.Room.{Room}
 use Rattle.cm_plain.specs.declared.room.Room.TheVariants.{InPlace}
 use Rattle.cm_plain.specs.declared.room.Spot.{Spot}
@@ -51,8 +51,8 @@ kind_in InPlace (Some old) = kind.InPlace
 kind_in room (Some old) = kind.Relocate
 
 -- the change that places a value for a key
-abbrev pub placing : Geo → Op → List ℕ → List ℕ → Option Placed → Room → ℕ → Change
-placing geo op key value old room chunks = record {
+abbrev pub placing_change : Geo → Op → List ℕ → List ℕ → Option Placed → Room → ℕ → Change
+placing_change geo op key value old room chunks = record {
   op = op;
   kind = kind_in room old;
   key = key;
@@ -63,8 +63,8 @@ placing geo op key value old room chunks = record {
 }
 
 -- the change that takes a key's entry away
-abbrev pub taking : Geo → Op → List ℕ → Option Placed → Change
-taking geo op key old = record {
+abbrev pub removing_change : Geo → Op → List ℕ → Option Placed → Change
+removing_change geo op key old = record {
   op = op;
   kind = kind.Remove;
   key = key;
@@ -76,13 +76,13 @@ taking geo op key old = record {
 
 -- the change of a key that places this value, or none
 abbrev pub change_of : Geo → State → Op → List ℕ → Option (List ℕ) → Change
-change_of geo state op key None = taking geo op key (found key state)
+change_of geo state op key None = removing_change geo op key (entry_of key state)
 change_of geo state op key (Some value) =
-    let chunks = need geo (length key) (length value) in placing geo op key value (found key state) (room_for geo state key chunks) chunks
+    let chunks = need geo (length key) (length value) in placing_change geo op key value (entry_of key state) (room_for geo state key chunks) chunks
 
 -- the change that an operation plans for a key in a state
-abbrev pub planned : Geo → State → Op → List ℕ → Change
-planned geo state op key = change_of geo state op key (placed_value op)
+abbrev pub planned_change : Geo → State → Op → List ℕ → Change
+planned_change geo state op key = change_of geo state op key (placed_value op)
 
 -- the entries without a key's
 abbrev pub without : List ℕ → List Placed → List Placed

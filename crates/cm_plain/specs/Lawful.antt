@@ -8,11 +8,11 @@ use Rattle.cm_plain.specs.States.{IsState, State, chunks_of}
 use Rattle.cm_plain.specs.Steps.{last_number}
 use Rattle.cm_plain.specs.Slots.{IsPointedOnce, Slot, slot_for, slot_in, word_at}
 use Rattle.cm_plain.specs.Readings.{Stands}
-use Rattle.cm_plain.specs.Linked.{IsZero, linked}
+use Rattle.cm_plain.specs.FoundChains.{IsZero, chain_of}
 
 -- the list is the words of a segment: there are as many, of 64 bits each
 pub record IsSegmentWords (geo : Geo) (words : List ℕ) : Type 0 where
-  pub many : length words ≡ words_in_segment geo
+  pub length_is : length words ≡ words_in_segment geo
   pub fit : All (λ word. word < 2 ^ 64) words
 
 -- the state has an entry at this place
@@ -52,7 +52,7 @@ abbrev pub HasBit : Geo → List ℕ → ℕ → ℕ → Type 0
 HasBit geo words place chunk = IsBitSet (word_at words (bits_at geo place (chunk / 64))) (chunk % 64)
 
 -- the words of a chained tier tell the state's entries there
-pub record TierTells (geo : Geo) (words : List ℕ) (state : State) (place : ℕ) : Type 0 where
+pub record TierRepresents (geo : Geo) (words : List ℕ) (state : State) (place : ℕ) : Type 0 where
   -- each slot that isn't empty is an entry's
   pub slots : (number : ℕ) (slot : Slot) → number < 2 * geo.chunks → slot_in geo words place number ≡ Some slot → IsSlotOf geo state place slot
   -- the slot law
@@ -63,11 +63,11 @@ pub record TierTells (geo : Geo) (words : List ℕ) (state : State) (place : ℕ
   pub count : word_at words (tier_at geo place + 1) ≡ length (filter (λ placed. placed.place == place) state.entries)
 
 -- the words of a segment tell a state: its chain, its entries and nothing else
-pub record Tells (geo : Geo) (segment : ℕ) (words : List ℕ) (state : State) : Type 0 where
+pub record Represents (geo : Geo) (segment : ℕ) (words : List ℕ) (state : State) : Type 0 where
   pub is_state : IsState geo segment state
-  pub whole : (linked geo words).cut ≡ false
-  pub chain : (linked geo words).places ≡ state.chain
-  pub tiers : All (TierTells geo words state) state.chain
+  pub whole : (chain_of geo words).cut ≡ false
+  pub chain : (chain_of geo words).places ≡ state.chain
+  pub tiers : All (TierRepresents geo words state) state.chain
   -- each entry stands where it is placed, and has just one slot
   pub stand : (placed : Placed) → Contains state.entries placed → Stands geo words placed
   pub pointed : (placed : Placed) → Contains state.entries placed → IsPointedOnce geo words placed.place placed.key placed.chunk
@@ -81,10 +81,10 @@ pub record EndsHead (geo : Geo) (words : List ℕ) (place : ℕ) : Type 0 where
 
 -- the words of a segment, as many as it has, stand for a state, apart from the lock word and the change number
 pub record LawfulApart (geo : Geo) (segment : ℕ) (words : List ℕ) (state : State) : Type 0 where
-  pub many : length words ≡ words_in_segment geo
+  pub length_is : length words ≡ words_in_segment geo
   pub fourth : word_at words 3 ≡ 0
   pub heads : All (EndsHead geo words) state.chain
-  pub tells : Tells geo segment words state
+  pub tells : Represents geo segment words state
 
 -- the words of a quiet segment after so many changes stand for a state
 pub record Lawful (geo : Geo) (segment : ℕ) (words : List ℕ) (number : ℕ) (state : State) : Type 0 where

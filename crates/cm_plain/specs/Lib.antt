@@ -10,6 +10,6 @@ pub mod Segments
 pub mod Placings
 pub mod Slots
 pub mod Readings
-pub mod Linked
+pub mod FoundChains
 pub mod Lawful
 pub mod Torn

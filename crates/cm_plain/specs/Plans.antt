@@ -8,22 +8,22 @@ use Rattle.cm_plain.specs.declared.plan.Plan.{Plan}
 use Rattle.cm_plain.specs.Changes.{Change}
 
 -- the operation that is asked for
-abbrev pub asked : Ask → Op
-asked (Put key value) = op.Put key.now value.now
-asked (Get key) = op.Get key.now
-asked (PutIfAbsent key value) = op.PutIfAbsent key.now value.now
-asked (Replace key value) = op.Replace key.now value.now
-asked (ReplaceIf key expected value) = op.ReplaceIf key.now expected.now value.now
-asked (Remove key) = op.Remove key.now
-asked (RemoveIf key expected) = op.RemoveIf key.now expected.now
-asked (Count segment) = op.Count segment
-asked (ListAll segment) = op.List segment
-asked (Sweep segment prefix) = op.Sweep segment prefix.now
+abbrev pub op_of_ask : Ask → Op
+op_of_ask (Put key value) = op.Put key.now value.now
+op_of_ask (Get key) = op.Get key.now
+op_of_ask (PutIfAbsent key value) = op.PutIfAbsent key.now value.now
+op_of_ask (Replace key value) = op.Replace key.now value.now
+op_of_ask (ReplaceIf key expected value) = op.ReplaceIf key.now expected.now value.now
+op_of_ask (Remove key) = op.Remove key.now
+op_of_ask (RemoveIf key expected) = op.RemoveIf key.now expected.now
+op_of_ask (Count segment) = op.Count segment
+op_of_ask (ListAll segment) = op.List segment
+op_of_ask (Sweep segment prefix) = op.Sweep segment prefix.now
 
 -- the change of a plan; the slot that points to the old run is told of the words, and not of a state
-abbrev pub told_by : Plan → Change
-told_by plan = record {
-  op = asked plan.ask;
+abbrev pub plan_change : Plan → Change
+plan_change plan = record {
+  op = op_of_ask plan.ask;
   kind = plan.kind;
   key = plan.key.now;
   value = plan.value.now;

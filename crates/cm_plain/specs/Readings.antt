@@ -16,8 +16,8 @@ abbrev pub bytes_of : List ℕ → List ℕ
 bytes_of words = flat_map (to_le_bytes w64) words
 
 -- bytes filled with zeros to whole words
-abbrev pub filled : List ℕ → List ℕ
-filled bytes = bytes ++ replicate (8 * parts_for 8 (length bytes) - length bytes) 0
+abbrev pub padded : List ℕ → List ℕ
+padded bytes = bytes ++ replicate (8 * parts_for 8 (length bytes) - length bytes) 0
 
 -- the first word of an entry: the length of its key, and 2^32 times that of its value
 abbrev pub head_of : List ℕ → List ℕ → ℕ
@@ -52,21 +52,21 @@ abbrev pub checksum : ℕ → List ℕ → List ℕ → ℕ
 checksum head key value = hash (to_le_bytes w64 head ++ key ++ value)
 
 -- the bytes behind so many are zero
-abbrev pub is_filled : ℕ → List ℕ → Bool
-is_filled count bytes = list_all (λ byte. byte == 0) (drop count bytes)
+abbrev pub is_padded : ℕ → List ℕ → Bool
+is_padded count bytes = list_all (λ byte. byte == 0) (drop count bytes)
 
 -- what is read at a chunk: an entry, or the first thing that is wrong there
 pub data Reading : Type 0 where
   wrong_lengths : Reading
   wrong_checksum : Reading
-  wrong_filling : Reading
+  wrong_padding : Reading
   entry : Pair → Reading
 
 abbrev pub reading_of : Geo → ℕ → ℕ → ℕ → List ℕ → List ℕ → Reading
-reading_of geo chunk head sum key value =
+reading_of geo chunk head stored_checksum key value =
     if not (lengths_fit geo chunk head) then wrong_lengths
-    else (if not (checksum head key value == sum) then wrong_checksum
-    else (if not (is_filled (key_len head) key && is_filled (value_len head) value) then wrong_filling
+    else (if not (checksum head key value == stored_checksum) then wrong_checksum
+    else (if not (is_padded (key_len head) key && is_padded (value_len head) value) then wrong_padding
     else entry (record { key = take (key_len head) key; value = take (value_len head) value })))
 
 unfoldable pub reading_at : Geo → List ℕ → ℕ → ℕ → Reading
@@ -80,4 +80,4 @@ Stands geo words placed = reading_at geo words placed.place placed.chunk ≡ ent
 
 -- the key's words stand at a chunk, whatever the first word tells
 abbrev pub HasKeyWords : Geo → List ℕ → ℕ → ℕ → List ℕ → Type 0
-HasKeyWords geo words place chunk key = bytes_at geo words place chunk 0 (parts_for 8 (length key)) ≡ filled key
+HasKeyWords geo words place chunk key = bytes_at geo words place chunk 0 (parts_for 8 (length key)) ≡ padded key

@@ -7,7 +7,7 @@ use Rattle.cm_plain.specs.declared.placed.Placed.{Placed}
 use Rattle.cm_plain.specs.declared.room.Spot.{Spot}
 use Rattle.cm_plain.specs.declared.room.Room.{Room}
 use Rattle.cm_plain.specs.declared.room.Room.TheVariants.{InPlace, Elsewhere, NewTier, Nowhere}
-use Rattle.cm_plain.specs.States.{State, chunks_of, found}
+use Rattle.cm_plain.specs.States.{State, chunks_of, entry_of}
 
 -- an entry's run meets one of so many chunks from this one on, at this place
 abbrev pub meets : Geo → ℕ → ℕ → ℕ → Placed → Bool
@@ -63,7 +63,7 @@ room_beside geo state (Some old) chunks =
 
 -- where a key's value of so many chunks goes; an old entry of the key still counts
 abbrev pub room_for : Geo → State → List ℕ → ℕ → Room
-room_for geo state key chunks = room_beside geo state (found key state) chunks
+room_for geo state key chunks = room_beside geo state (entry_of key state) chunks
 
 -- the chunk at which a value goes, beside the key's old entry
 abbrev pub spot_in : Room → Option Placed → Option Spot

@@ -9,7 +9,7 @@ use Rattle.cm_plain.specs.declared.placed.Placed.{Placed}
 use Rattle.cm_plain.specs.declared.plan.PlanKind.TheVariants as kind
 use Rattle.cm_plain.specs.declared.reply.Reply.{Reply}
 use Rattle.cm_plain.specs.declared.reply.Reply.TheVariants as reply
-use Rattle.cm_plain.specs.States.{State, IsState, found_among}
+use Rattle.cm_plain.specs.States.{State, IsState, entry_among}
 use Rattle.cm_geo.specs.Need.{need}
 use Rattle.cm_plain.specs.Changes.{placed_value}
 use Rattle.cm_plain.specs.Rooms.{room_for}
@@ -66,7 +66,7 @@ IsLeast prefix entries key = All (λ entry. has_prefix prefix entry.key ≡ true
 
 -- this key has an entry and the prefix, and no key with the prefix is below it
 pub record IsLeastKey (prefix : List ℕ) (entries : List Placed) (key : List ℕ) : Type 0 where
-  pub there : is_some (found_among key entries) ≡ true
+  pub there : is_some (entry_among key entries) ≡ true
   pub prefixed : has_prefix prefix key ≡ true
   pub least : IsLeast prefix entries key
 

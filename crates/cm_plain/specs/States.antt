@@ -43,7 +43,7 @@ pub record IsPlaced (geo : Geo) (segment : ℕ) (chain : List ℕ) (entry : Plac
 -- a chain has 1 to the most tiers, at different places, the first at place 0
 pub record IsChain (geo : Geo) (chain : List ℕ) : Type 0 where
   pub first : slice_get chain 0 ≡ Some 0
-  pub few : length chain ≤ geo.tiers
+  pub within_limit : length chain ≤ geo.tiers
   pub inside : All (λ place. place < geo.tiers) chain
   pub apart : AllPairs (λ place other. place ≢ other) chain
 
@@ -59,12 +59,12 @@ abbrev pub one_tier : State
 one_tier = record { chain = 0 ∷ []; entries = [] }
 
 -- the entry of a key
-abbrev pub found_among : List ℕ → List Placed → Option Placed
-found_among key entries = find (λ entry. bytes_eq entry.key key) entries
+abbrev pub entry_among : List ℕ → List Placed → Option Placed
+entry_among key entries = find (λ entry. bytes_eq entry.key key) entries
 
 -- the entry of a key in a state
-abbrev pub found : List ℕ → State → Option Placed
-found key state = found_among key state.entries
+abbrev pub entry_of : List ℕ → State → Option Placed
+entry_of key state = entry_among key state.entries
 
 -- the value of an entry
 abbrev pub value_in : Option Placed → Option (List ℕ)
@@ -72,7 +72,7 @@ value_in entry = option_map (λ entry. entry.value) entry
 
 -- the value of a key in a state
 abbrev pub value_of : List ℕ → State → Option (List ℕ)
-value_of key state = value_in (found key state)
+value_of key state = value_in (entry_of key state)
 
 -- the pair of an entry
 abbrev pub pair_of : Placed → Pair

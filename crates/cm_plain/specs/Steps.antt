@@ -14,11 +14,11 @@ use Rattle.cm_plain.specs.declared.reply.Pair.{Pair}
 use Rattle.cm_plain.specs.declared.reply.Reply.{Reply}
 use Rattle.cm_plain.specs.declared.reply.Reply.TheVariants as reply
 use Rattle.cm_plain.specs.States.{State}
-use Rattle.cm_plain.specs.States.{IsState, Lists, found, value_of}
+use Rattle.cm_plain.specs.States.{IsState, Lists, entry_of, value_of}
 use Rattle.cm_plain.specs.declared.room.Room.{Room}
 use Rattle.cm_plain.specs.declared.room.Room.TheVariants.{InPlace}
 use Rattle.cm_plain.specs.Rooms.{is_new_tier, is_nowhere, room_for}
-use Rattle.cm_plain.specs.Changes.{Change, planned, after}
+use Rattle.cm_plain.specs.Changes.{Change, planned_change, after}
 
 -- the last number of changes that a segment counts to
 abbrev pub last_number : ℕ
@@ -47,29 +47,29 @@ would_change (ListAll segment) state = false
 would_change (Sweep segment prefix) state = list_any (λ entry. has_prefix prefix entry.key) state.entries
 
 -- the answer that tells a key's value, or that it isn't there
-abbrev pub got : Option (List ℕ) → Reply
-got None = reply.Missing
-got (Some value) = reply.Value value
+abbrev pub value_reply : Option (List ℕ) → Reply
+value_reply None = reply.Missing
+value_reply (Some value) = reply.Value value
 
 -- the answer where a value is there and stays
-abbrev pub kept : Option (List ℕ) → Reply
-kept None = reply.Missing
-kept (Some value) = reply.Kept value
+abbrev pub kept_reply : Option (List ℕ) → Reply
+kept_reply None = reply.Missing
+kept_reply (Some value) = reply.Kept value
 
 -- the answer where a value is not the expected one
-abbrev pub unmet : Option (List ℕ) → Reply
-unmet None = reply.Missing
-unmet (Some value) = reply.Differs
+abbrev pub unmet_reply : Option (List ℕ) → Reply
+unmet_reply None = reply.Missing
+unmet_reply (Some value) = reply.Differs
 
 -- the answer where an operation's condition for a change isn't met
 abbrev pub AnswersUnchanged : Op → State → Reply → Type 0
 AnswersUnchanged (Put key value) state answer = ⊥
-AnswersUnchanged (Get key) state answer = answer ≡ got (value_of key state)
-AnswersUnchanged (PutIfAbsent key value) state answer = answer ≡ kept (value_of key state)
+AnswersUnchanged (Get key) state answer = answer ≡ value_reply (value_of key state)
+AnswersUnchanged (PutIfAbsent key value) state answer = answer ≡ kept_reply (value_of key state)
 AnswersUnchanged (Replace key value) state answer = answer ≡ reply.Missing
-AnswersUnchanged (ReplaceIf key expected value) state answer = answer ≡ unmet (value_of key state)
+AnswersUnchanged (ReplaceIf key expected value) state answer = answer ≡ unmet_reply (value_of key state)
 AnswersUnchanged (Remove key) state answer = answer ≡ reply.Missing
-AnswersUnchanged (RemoveIf key expected) state answer = answer ≡ unmet (value_of key state)
+AnswersUnchanged (RemoveIf key expected) state answer = answer ≡ unmet_reply (value_of key state)
 AnswersUnchanged (Count segment) state answer = answer ≡ reply.Count (length state.entries)
 AnswersUnchanged (ListAll segment) state answer = (pairs : List Pair) × Lists state pairs × (answer ≡ reply.Pairs pairs)
 AnswersUnchanged (Sweep segment prefix) state answer = answer ≡ reply.SweptAll
@@ -85,7 +85,7 @@ ChangesKey (Remove key) state changed = changed ≡ key
 ChangesKey (RemoveIf key expected) state changed = changed ≡ key
 ChangesKey (Count segment) state changed = ⊥
 ChangesKey (ListAll segment) state changed = ⊥
-ChangesKey (Sweep segment prefix) state changed = (has_prefix prefix changed ≡ true) × (is_some (found changed state) ≡ true)
+ChangesKey (Sweep segment prefix) state changed = (has_prefix prefix changed ≡ true) × (is_some (entry_of changed state) ≡ true)
 
 -- the room that an operation needs, if it places a value
 abbrev pub room_wanted : Geo → State → Op → Room
@@ -101,7 +101,7 @@ pub record Plans (geo : Geo) (segment : ℕ) (state : State) (op : Op) (change :
   pub met : would_change op state ≡ true
   pub room : is_nowhere (room_wanted geo state op) ≡ false
   pub key : ChangesKey op state change.key
-  pub change_is : change ≡ planned geo state op change.key
+  pub change_is : change ≡ planned_change geo state op change.key
   pub leads : IsState geo segment (after geo change state)
 
 -- the reply to a change
@@ -113,35 +113,35 @@ reply_of kind.InPlace op key = reply.Replaced
 reply_of kind.Relocate op key = reply.Replaced
 
 -- what is done with an operation
-pub data Course : Type 0 where
-  stays : Course
-  is_full : Course
-  is_worn : Course
-  is_spent : Course
-  goes : Course
+pub data Decision : Type 0 where
+  no_change : Decision
+  is_full : Decision
+  is_worn : Decision
+  is_spent : Decision
+  changes_state : Decision
 
 -- what is done with a change that wants this room: there is none in a chain that may not grow; no number is left; a new tier isn't granted
-abbrev pub course_in : Room → ℕ → Bool → Course
-course_in room number grant =
+abbrev pub decision_in : Room → ℕ → Bool → Decision
+decision_in room number grant =
     if is_nowhere room then is_full
-    else (if number == last_number then is_worn else (if is_new_tier room && not grant then is_spent else goes))
+    else (if number == last_number then is_worn else (if is_new_tier room && not grant then is_spent else changes_state))
 
 -- the first of these that applies: the condition isn't met, or what is done with the change
-abbrev pub course : Geo → State → ℕ → Bool → Op → Course
-course geo state number grant op = if would_change op state then course_in (room_wanted geo state op) number grant else stays
+abbrev pub decision : Geo → State → ℕ → Bool → Op → Decision
+decision geo state number grant op = if would_change op state then decision_in (room_wanted geo state op) number grant else no_change
 
 -- what a course leads to: the state after it, and the reply
-abbrev pub StepBy : Course → Geo → ℕ → State → Op → State → Reply → Type 0
-StepBy stays geo segment state op later answer = (later ≡ state) × AnswersUnchanged op state answer
-StepBy is_full geo segment state op later answer = (later ≡ state) × (answer ≡ reply.FullChain)
-StepBy is_worn geo segment state op later answer = (later ≡ state) × (answer ≡ reply.Worn)
-StepBy is_spent geo segment state op later answer = (later ≡ state) × (answer ≡ reply.FullSpent)
-StepBy goes geo segment state op later answer =
+abbrev pub StepAs : Decision → Geo → ℕ → State → Op → State → Reply → Type 0
+StepAs no_change geo segment state op later answer = (later ≡ state) × AnswersUnchanged op state answer
+StepAs is_full geo segment state op later answer = (later ≡ state) × (answer ≡ reply.FullChain)
+StepAs is_worn geo segment state op later answer = (later ≡ state) × (answer ≡ reply.Worn)
+StepAs is_spent geo segment state op later answer = (later ≡ state) × (answer ≡ reply.FullSpent)
+StepAs changes_state geo segment state op later answer =
     (change : Change) × Plans geo segment state op change × (later ≡ after geo change state) × (answer ≡ reply_of change.kind op change.key)
 
 -- an operation leads from a state after so many changes, with or without the grant of a further tier, to a state and a reply
 abbrev pub Step : Geo → ℕ → State → ℕ → Bool → Op → State → Reply → Type 0
-Step geo segment state number grant op later answer = StepBy (course geo state number grant op) geo segment state op later answer
+Step geo segment state number grant op later answer = StepAs (decision geo state number grant op) geo segment state op later answer
 
 -- the replies to a change
 abbrev pub is_change : Reply → Bool

@@ -9,8 +9,8 @@ use Rattle.cm_plain.specs.declared.plan.PlanKind.TheVariants as kind
 use Rattle.cm_plain.specs.States.{State}
 use Rattle.cm_plain.specs.Changes.{Change, after}
 use Rattle.cm_plain.specs.Slots.{IsPointed, Slot, slot_for, slot_in, word_at}
-use Rattle.cm_plain.specs.Readings.{HasKeyWords, Stands, checksum, filled, head_of}
-use Rattle.cm_plain.specs.Linked.{IsZero, linked}
+use Rattle.cm_plain.specs.Readings.{HasKeyWords, Stands, checksum, padded, head_of}
+use Rattle.cm_plain.specs.FoundChains.{IsZero, chain_of}
 
 -- an entry of another key than the change's
 pub record IsOther (state : State) (change : Change) (placed : Placed) : Type 0 where
@@ -18,7 +18,7 @@ pub record IsOther (state : State) (change : Change) (placed : Placed) : Type 0 
   pub other : placed.key ≢ change.key
 
 -- the entry of the change's key
-pub record IsItsEntry (state : State) (change : Change) (placed : Placed) : Type 0 where
+pub record IsChangeEntry (state : State) (change : Change) (placed : Placed) : Type 0 where
   pub there : Contains state.entries placed
   pub key_is : placed.key ≡ change.key
 
@@ -28,28 +28,28 @@ BeginsAt None place chunk = ⊥
 BeginsAt (Some run) place chunk = (run.place ≡ place) × (run.chunk ≡ chunk)
 
 -- a slot at this place is that of an entry of another key
-pub record IsOthersSlot (geo : Geo) (state : State) (change : Change) (place : ℕ) (slot : Slot) : Type 0 where
+pub record IsOtherSlot (geo : Geo) (state : State) (change : Change) (place : ℕ) (slot : Slot) : Type 0 where
   pub placed : Placed
   pub is_other : IsOther state change placed
   pub place_is : placed.place ≡ place
   pub slot_is : slot ≡ slot_for geo placed.key placed.chunk
 
 -- a slot at this place points to the first chunk of the change's old or new run, for its key
-pub record IsItsSlot (geo : Geo) (change : Change) (place : ℕ) (slot : Slot) : Type 0 where
+pub record IsChangeSlot (geo : Geo) (change : Change) (place : ℕ) (slot : Slot) : Type 0 where
   pub chunk : ℕ
   pub begins : BeginsAt change.old_run place chunk ⊎ BeginsAt change.new_run place chunk
   pub slot_is : slot ≡ slot_for geo change.key chunk
 
 -- a slot of a chained tier points to an entry
 pub record IsPointedInChain (geo : Geo) (words : List ℕ) (placed : Placed) : Type 0 where
-  pub chained : Contains (linked geo words).places placed.place
+  pub chained : Contains (chain_of geo words).places placed.place
   pub pointed : IsPointed geo words placed.place placed.key placed.chunk
 
 -- the first word, the key's words and the checksum while a value is replaced in place
 pub record IsBetween (geo : Geo) (words : List ℕ) (old new : Placed) : Type 0 where
   pub head : (word_at words (chunk_at geo old.place old.chunk) ≡ head_of old.key old.value) ⊎ (word_at words (chunk_at geo old.place old.chunk) ≡ head_of new.key new.value)
   pub key : HasKeyWords geo words old.place old.chunk old.key
-  pub sum : (word_at words (chunk_at geo old.place old.chunk + 1) ≡ checksum (head_of old.key old.value) (filled old.key) (filled old.value)) ⊎ Stands geo words new
+  pub stored_checksum : (word_at words (chunk_at geo old.place old.chunk + 1) ≡ checksum (head_of old.key old.value) (padded old.key) (padded old.value)) ⊎ Stands geo words new
 
 -- the words lie between the state and the one that the change leads to
 pub record Torn (geo : Geo) (words : List ℕ) (state : State) (change : Change) : Type 0 where
@@ -57,19 +57,19 @@ pub record Torn (geo : Geo) (words : List ℕ) (state : State) (change : Change)
   pub others_stand : (placed : Placed) → IsOther state change placed → Stands geo words placed
   pub others_pointed : (placed : Placed) → IsOther state change placed → IsPointed geo words placed.place placed.key placed.chunk
   -- each slot of a chained tier that isn't empty is another entry's or the change's
-  pub slots : (place number : ℕ) (slot : Slot) → Contains (linked geo words).places place → number < 2 * geo.chunks → slot_in geo words place number ≡ Some slot
-      → IsOthersSlot geo state change place slot ⊎ IsItsSlot geo change place slot
+  pub slots : (place number : ℕ) (slot : Slot) → Contains (chain_of geo words).places place → number < 2 * geo.chunks → slot_in geo words place number ≡ Some slot
+      → IsOtherSlot geo state change place slot ⊎ IsChangeSlot geo change place slot
   -- what a slot points to is whole: the old entry, unless its value is replaced in place, and a new one apart from it
-  pub old_whole : (placed : Placed) → IsItsEntry state change placed → (change.kind ≢ kind.InPlace) → IsPointedInChain geo words placed → Stands geo words placed
-  pub new_whole : (placed : Placed) → IsItsEntry (after geo change state) change placed
+  pub old_whole : (placed : Placed) → IsChangeEntry state change placed → (change.kind ≢ kind.InPlace) → IsPointedInChain geo words placed → Stands geo words placed
+  pub new_whole : (placed : Placed) → IsChangeEntry (after geo change state) change placed
       → (BeginsAt change.old_run placed.place placed.chunk → ⊥) → IsPointedInChain geo words placed → Stands geo words placed
   -- where the key was there and stays, a slot points to its old or its new entry
-  pub pointed : (old new : Placed) → IsItsEntry state change old → IsItsEntry (after geo change state) change new
+  pub pointed : (old new : Placed) → IsChangeEntry state change old → IsChangeEntry (after geo change state) change new
       → IsPointedInChain geo words old ⊎ IsPointedInChain geo words new
   -- the chain is the old or the new one, and what is outside it is 0
-  pub whole : (linked geo words).cut ≡ false
-  pub chain : ((linked geo words).places ≡ state.chain) ⊎ ((linked geo words).places ≡ (after geo change state).chain)
-  pub unlinked : (place : ℕ) → place < geo.tiers → (Contains (linked geo words).places place → ⊥) → IsZero geo words place
+  pub whole : (chain_of geo words).cut ≡ false
+  pub chain : ((chain_of geo words).places ≡ state.chain) ⊎ ((chain_of geo words).places ≡ (after geo change state).chain)
+  pub unlinked : (place : ℕ) → place < geo.tiers → (Contains (chain_of geo words).places place → ⊥) → IsZero geo words place
   -- a value that is replaced in place
-  pub between : (old new : Placed) → change.kind ≡ kind.InPlace → IsItsEntry state change old → IsItsEntry (after geo change state) change new
+  pub between : (old new : Placed) → change.kind ≡ kind.InPlace → IsChangeEntry state change old → IsChangeEntry (after geo change state) change new
       → IsBetween geo words old new

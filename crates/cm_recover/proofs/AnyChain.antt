@@ -10,11 +10,11 @@ use Rattle.cm_geo.specs.Addresses.{tier_at}
 use Rattle.cm_geo.proofs.Ranges.{tiers_range}
 use Rattle.cm_plain.specs.States.{IsChain}
 use Rattle.cm_plain.specs.Slots.{word_at}
-use Rattle.cm_plain.specs.Linked.{linked, linked_from}
+use Rattle.cm_plain.specs.FoundChains.{chain_of, chain_from}
 use Rattle.cm_plain.proofs.Chains.{IsOutside, chain_with, each_other}
 use Rattle.cm_plain.proofs.Each.{Pairs, all_from_pairs, each_weaker, pairs_from_all}
-use Rattle.cm_plain.proofs.Telling.{In, in_has}
-use Rattle.cm_recover.specs.Allowed.{allowed, extra_before}
+use Rattle.cm_plain.proofs.OneState.{In, in_has}
+use Rattle.cm_recover.specs.Allowed.{allowed_places, extra_before}
 use Rattle.cm_recover.proofs.Keeping.{some_any}
 
 -- different numbers below a number are no more than it
@@ -26,8 +26,8 @@ distinct_is (x ∷ xs) differ = (each_weaker (λ y. x ≢ y) (λ y. eqb x y ≡ 
     other : (x y : ℕ) → x ≢ y → eqb x y ≡ false
     other x y ne = grind (arith, nat_tests)
 
-few : (xs : List ℕ) (n : ℕ) → AllByRecursion (λ x. x < n) xs → Pairs (λ x y. x ≢ y) xs → length xs ≤ n
-few xs n below differ = length-le_from_distinct_below xs n (distinct_is xs differ)
+within_limit : (xs : List ℕ) (n : ℕ) → AllByRecursion (λ x. x < n) xs → Pairs (λ x y. x ≢ y) xs → length xs ≤ n
+within_limit xs n below differ = length-le_from_distinct_below xs n (distinct_is xs differ)
     (λ q e. (let one = some_any (eqb q) xs e in at_most q one.0 n one.2 (in_has (λ x. x < n) xs one.0 below one.1)))
   where
     at_most : (q x n : ℕ) → eqb q x ≡ true → x < n → q < n
@@ -39,15 +39,15 @@ short_beside geo chain place is outside =
     let below : AllByRecursion (λ it. it < geo.tiers) (place ∷ chain) = (outside.below, recursion_from_All (λ it. it < geo.tiers) chain is.inside) in
     let others : AllByRecursion (λ it. place ≢ it) chain = each_weaker (λ it. it ≢ place) (λ it. place ≢ it) (λ it ne same. ne (sym same)) chain (each_other chain place outside.unlinked) in
     let differ : Pairs (λ x y. x ≢ y) (place ∷ chain) = (others, pairs_from_all (λ x y. x ≢ y) chain is.apart) in
-    one_less (length chain) geo.tiers (few (place ∷ chain) geo.tiers below differ)
+    one_less (length chain) geo.tiers (within_limit (place ∷ chain) geo.tiers below differ)
   where
     one_less : (n most : ℕ) → suc n ≤ most → n < most
     one_less n most h = omega arith
 
 -- the chain from a place on
-chain_from : (links : ℕ) (geo : Geo) (words places : List ℕ) (place : ℕ) → IsChain geo places → IsChain geo (linked_from links geo words places place).places
-chain_from zero geo words places place is = is
-chain_from (suc links) geo words places place is =
+chain_from_is_chain : (links : ℕ) (geo : Geo) (words places : List ℕ) (place : ℕ) → IsChain geo places → IsChain geo (chain_from links geo words places place).places
+chain_from_is_chain zero geo words places place is = is
+chain_from_is_chain (suc links) geo words places place is =
     let next : ℕ = word_at words (tier_at geo place) in
     elim (cases_Bool (next == 0)) [
       | inl ends ↦ rw ends is
@@ -55,7 +55,7 @@ chain_from (suc links) geo words places place is =
         | inl cut ↦ rw (goes, cut) is
         | inr on ↦
             (let outside : IsOutside geo places next = record { below = low geo.tiers next (list_any (λ earlier. earlier == next) places) on; unlinked = out (nat_le geo.tiers next) (list_any (λ earlier. earlier == next) places) on } in
-            rw (goes, on) (chain_from links geo words (places ++ next ∷ []) next (chain_with geo places next is (short_beside geo places next is outside) outside)))
+            rw (goes, on) (chain_from_is_chain links geo words (places ++ next ∷ []) next (chain_with geo places next is (short_beside geo places next is outside) outside)))
       ]
     ]
   where
@@ -70,11 +70,11 @@ chain_from (suc links) geo words places place is =
     out false true e = cc e
     out false false e = refl
 
-pub linked_chain : (geo : Geo) (words : List ℕ) → IsChain geo (linked geo words).places
-unfolding linked
-linked_chain geo words = chain_from geo.tiers geo words (0 ∷ []) 0 (record {
+pub linked_chain : (geo : Geo) (words : List ℕ) → IsChain geo (chain_of geo words).places
+unfolding chain_of
+linked_chain geo words = chain_from_is_chain geo.tiers geo words (0 ∷ []) 0 (record {
   first = refl;
-  few = omega (arith, (tiers_range geo).0);
+  within_limit = omega (arith, (tiers_range geo).0);
   inside = All-from_recursion (λ place. place < geo.tiers) (0 ∷ []) (omega (arith, (tiers_range geo).0), tt);
   apart = all_from_pairs (λ place other. place ≢ other) (0 ∷ []) (tt, tt);
 })
@@ -101,17 +101,17 @@ chain_taken geo n chain is =
     let differ = pairs_taken (λ place other. place ≢ other) (suc n) chain (pairs_from_all (λ place other. place ≢ other) chain is.apart) in
     record {
       first = first_taken n chain is.first;
-      few = few (take (suc n) chain) geo.tiers below differ;
+      within_limit = within_limit (take (suc n) chain) geo.tiers below differ;
       inside = All-from_recursion (λ place. place < geo.tiers) (take (suc n) chain) below;
       apart = all_from_pairs (λ place other. place ≢ other) (take (suc n) chain) differ;
     }
 
-pub allowed_chain : (geo : Geo) (words_of : ℕ → List ℕ) (segment : ℕ) → IsChain geo (allowed geo words_of segment)
-unfolding allowed
+pub allowed_chain : (geo : Geo) (words_of : ℕ → List ℕ) (segment : ℕ) → IsChain geo (allowed_places geo words_of segment)
+unfolding allowed_places
 allowed_chain geo words_of segment =
     let n : ℕ = geo.extra - extra_before geo words_of segment in
     let e : 1 + n ≡ suc n = omega arith in
-    subst (λ (k : ℕ). IsChain geo (take k (linked geo (words_of segment)).places)) (sym e) (chain_taken geo n (linked geo (words_of segment)).places (linked_chain geo (words_of segment)))
+    subst (λ (k : ℕ). IsChain geo (take k (chain_of geo (words_of segment)).places)) (sym e) (chain_taken geo n (chain_of geo (words_of segment)).places (linked_chain geo (words_of segment)))
 
 -- and it is of the chain
 in_taken : {X : Type 0} (n : ℕ) (xs : List X) (x : X) → In x (take n xs) → In x xs
@@ -120,6 +120,6 @@ in_taken (suc n) [] x i = absurd i
 in_taken (suc n) (y ∷ xs) x (inl e) = inl e
 in_taken (suc n) (y ∷ xs) x (inr i) = inr (in_taken n xs x i)
 
-pub allowed_in : (geo : Geo) (words_of : ℕ → List ℕ) (segment place : ℕ) → In place (allowed geo words_of segment) → In place (linked geo (words_of segment)).places
-unfolding allowed
-allowed_in geo words_of segment place i = in_taken (1 + (geo.extra - extra_before geo words_of segment)) (linked geo (words_of segment)).places place i
+pub allowed_in : (geo : Geo) (words_of : ℕ → List ℕ) (segment place : ℕ) → In place (allowed_places geo words_of segment) → In place (chain_of geo (words_of segment)).places
+unfolding allowed_places
+allowed_in geo words_of segment place i = in_taken (1 + (geo.extra - extra_before geo words_of segment)) (chain_of geo (words_of segment)).places place i

@@ -11,27 +11,27 @@ use Rattle.cm_geo.specs.declared.geo.Geo.{Geo}
 use Rattle.cm_geo.specs.Addresses.{chunk_at, words_in_segment}
 use Rattle.cm_geo.specs.Hash.{fingerprint_in, hash, segment_of_key}
 use Rattle.cm_geo.specs.Need.{Fits, need, parts_for}
-use Rattle.cm_geo.proofs.InOrder.{run_in_range}
+use Rattle.cm_geo.proofs.AddressOrder.{run_in_range}
 use Rattle.cm_geo.proofs.Ranges.{chunk_words_range}
 use Rattle.cm_plain.specs.declared.placed.Placed.{Placed}
 use Rattle.cm_plain.specs.States.{HasRun, IsPlaced, IsState, chunks_of, pair_of}
 use Rattle.cm_plain.specs.Rooms.{is_free, meets}
 use Rattle.cm_plain.specs.Changes.{entry_at}
-use Rattle.cm_plain.specs.Readings.{Reading, Stands, entry, key_bytes, key_len, reading_at, value_bytes, value_len, wrong_checksum, wrong_filling, wrong_lengths}
+use Rattle.cm_plain.specs.Readings.{Reading, Stands, entry, key_bytes, key_len, reading_at, value_bytes, value_len, wrong_checksum, wrong_padding, wrong_lengths}
 use Rattle.cm_plain.proofs.Apart.{Rising, fresh_apart, rising_with}
 use Rattle.cm_plain.proofs.Each.{Pairs, all_from_pairs, each_fails, each_weaker}
-use Rattle.cm_plain.proofs.Filling.{IsRead, bytes_len, is_read}
+use Rattle.cm_plain.proofs.Padding.{IsRead, bytes_len, is_read}
 use Rattle.cm_plain.proofs.Placing.{each_with, keys_with}
 use Rattle.cm_plain.proofs.States.{Differs}
-use Rattle.cm_plain.proofs.Resting.{words_within}
-use Rattle.cm_plain.proofs.Telling.{In, in_has, in_to}
+use Rattle.cm_plain.proofs.RestingTorn.{words_within}
+use Rattle.cm_plain.proofs.OneState.{In, in_has, in_to}
 use Rattle.cm_recover.specs.declared.cause.Cause.TheVariants as cause
-use Rattle.cm_recover.specs.Occupied.{Occupied, occupied}
-use Rattle.cm_recover.specs.Allowed.{allowed}
-use Rattle.cm_recover.specs.Verdicts.{Verdict, is_dropped, is_kept, verdict, verdict_beside, verdict_in_tier, verdict_on_entry, verdict_on_reading}
-use Rattle.cm_recover.specs.Kept.{Kept, kept_in, kept_of, kept_state, kept_with}
+use Rattle.cm_recover.specs.Occupied.{OccupiedSlot, occupied_slots}
+use Rattle.cm_recover.specs.Allowed.{allowed_places}
+use Rattle.cm_recover.specs.Judgements.{Judgement, is_dropped, is_kept, judgement, judgement_beside, judgement_in_tier, judgement_on_entry, judgement_on_reading}
+use Rattle.cm_recover.specs.KeptSlots.{KeptEntries, kept_in, kept_of, kept_state, kept_with}
 use Rattle.cm_recover.proofs.AnyChain.{allowed_chain}
-use Rattle.cm_recover.proofs.Between.{value_size}
+use Rattle.cm_recover.proofs.InPlaceWords.{value_size}
 use Rattle.cm_recover.proofs.Keeping.{some_any}
 
 -- an entry that is kept beside others
@@ -40,7 +40,7 @@ record IsBeside (geo : Geo) (kept : List Placed) (placed it : Placed) : Type 0 w
   new : list_any (λ other. bytes_eq other.key placed.key) kept ≡ false
   free : list_any (meets geo placed.place placed.chunk (chunks_of geo placed)) kept ≡ false
 
-kept_beside : (geo : Geo) (kept : List Placed) (placed it : Placed) → verdict_beside geo kept placed ≡ is_kept it → IsBeside geo kept placed it
+kept_beside : (geo : Geo) (kept : List Placed) (placed it : Placed) → judgement_beside geo kept placed ≡ is_kept it → IsBeside geo kept placed it
 kept_beside geo kept placed it e = elim (cases_Bool (list_any (λ other. bytes_eq other.key placed.key) kept)) [
   | inl there ↦ (let clash : is_dropped cause.Duplicate ≡ is_kept it = rw there at e in cc clash)
   | inr new ↦ elim (cases_Bool (list_any (meets geo placed.place placed.chunk (chunks_of geo placed)) kept)) [
@@ -57,7 +57,7 @@ record IsTakenUp (geo : Geo) (segment : ℕ) (kept : List Placed) (placed it : P
   here : segment_of_key geo placed.key ≡ segment
   beside : IsBeside geo kept placed it
 
-kept_on_entry : (geo : Geo) (segment : ℕ) (kept : List Placed) (fingerprint : ℕ) (placed it : Placed) → verdict_on_entry geo segment kept fingerprint placed ≡ is_kept it → IsTakenUp geo segment kept placed it
+kept_on_entry : (geo : Geo) (segment : ℕ) (kept : List Placed) (fingerprint : ℕ) (placed it : Placed) → judgement_on_entry geo segment kept fingerprint placed ≡ is_kept it → IsTakenUp geo segment kept placed it
 kept_on_entry geo segment kept fingerprint placed it e = elim (eqb_tells (segment_of_key geo placed.key) segment) [
   | inr fails ↦ (let f = fails.0 in let clash : is_dropped cause.Segment ≡ is_kept it = rw f at e in cc clash)
   | inl here ↦ (let h = here.0 in elim (cases_Bool (fingerprint_in geo (hash placed.key) == fingerprint)) [
@@ -75,16 +75,16 @@ record IsReadAt (geo : Geo) (segment : ℕ) (words : List ℕ) (kept : List Plac
   free : list_any (meets geo it.place it.chunk (chunks_of geo it)) kept ≡ false
 
 kept_on_reading : (geo : Geo) (segment : ℕ) (words : List ℕ) (kept : List Placed) (fingerprint place chunk : ℕ) (it : Placed) (reading : Reading) → reading_at geo words place chunk ≡ reading
-    → verdict_on_reading geo segment kept fingerprint place chunk reading ≡ is_kept it → IsReadAt geo segment words kept place it
+    → judgement_on_reading geo segment kept fingerprint place chunk reading ≡ is_kept it → IsReadAt geo segment words kept place it
 kept_on_reading geo segment words kept fingerprint place chunk it wrong_lengths is e = cc e
 kept_on_reading geo segment words kept fingerprint place chunk it wrong_checksum is e = cc e
-kept_on_reading geo segment words kept fingerprint place chunk it wrong_filling is e = cc e
+kept_on_reading geo segment words kept fingerprint place chunk it wrong_padding is e = cc e
 kept_on_reading geo segment words kept fingerprint place chunk it (entry pair) is e =
     let up = kept_on_entry geo segment kept fingerprint (entry_at pair.key pair.value place chunk) it e in
     subst (λ (p : Placed). IsReadAt geo segment words kept place p) up.beside.is (record { place_is = refl; reads = is; here = up.here; new = up.beside.new; free = up.beside.free })
 
 kept_in_tier : (geo : Geo) (segment : ℕ) (words : List ℕ) (kept : List Placed) (fingerprint place : ℕ) (chunk : Option ℕ) (it : Placed)
-    → verdict_in_tier geo segment words kept fingerprint place chunk ≡ is_kept it → IsReadAt geo segment words kept place it
+    → judgement_in_tier geo segment words kept fingerprint place chunk ≡ is_kept it → IsReadAt geo segment words kept place it
 kept_in_tier geo segment words kept fingerprint place None it e = cc e
 kept_in_tier geo segment words kept fingerprint place (Some chunk) it e = elim (cases_Bool (nat_le geo.chunks chunk)) [
   | inl outside ↦ (let clash : is_dropped cause.Range ≡ is_kept it = rw outside at e in cc clash)
@@ -99,7 +99,7 @@ record IsSlotKept (geo : Geo) (segment : ℕ) (words places : List ℕ) (kept : 
   new : list_any (λ other. bytes_eq other.key it.key) kept ≡ false
   free : list_any (meets geo it.place it.chunk (chunks_of geo it)) kept ≡ false
 
-slot_kept : (geo : Geo) (segment : ℕ) (words places : List ℕ) (kept : List Placed) (at : Occupied) (it : Placed) → verdict geo segment words places kept at ≡ is_kept it → IsSlotKept geo segment words places kept it
+slot_kept : (geo : Geo) (segment : ℕ) (words places : List ℕ) (kept : List Placed) (at : OccupiedSlot) (it : Placed) → judgement geo segment words places kept at ≡ is_kept it → IsSlotKept geo segment words places kept it
 slot_kept geo segment words places kept at it e = elim (cases_Bool (list_any (λ place. place == at.place) places)) [
   | inr outside ↦ (let clash : is_dropped cause.Allowance ≡ is_kept it = rw outside at e in cc clash)
   | inl among ↦ (
@@ -115,14 +115,14 @@ slot_kept geo segment words places kept at it e = elim (cases_Bool (list_any (λ
 -- the key's bytes are whole words, as many as the first word tells
 key_size : (geo : Geo) (words : List ℕ) (place chunk head : ℕ) → length words ≡ words_in_segment geo → place < geo.tiers → chunk + need geo (key_len head) (value_len head) ≤ geo.chunks
     → length (key_bytes geo words place chunk head) ≡ 8 * parts_for 8 (key_len head)
-key_size geo words place chunk head many low inside =
+key_size geo words place chunk head length_is low inside =
     let at : ℕ = chunk_at geo place chunk in
     let pk : ℕ = parts_for 8 (key_len head) in
     let pv : ℕ = parts_for 8 (value_len head) in
     let chunk_words : 1 ≤ geo.chunk_words = omega (arith, (chunk_words_range geo).0) in
     let range = run_in_range geo place chunk (need geo (key_len head) (value_len head)) low inside in
     let enough = words_within (2 + parts_for 8 (key_len head) + parts_for 8 (value_len head)) geo.chunk_words chunk_words in
-    let room : at + (2 + pk + pv) ≤ length words = room_is at (2 + pk + pv) (need geo (key_len head) (value_len head)) geo.chunk_words (words_in_segment geo) (length words) enough range many in
+    let room : at + (2 + pk + pv) ≤ length words = room_is at (2 + pk + pv) (need geo (key_len head) (value_len head)) geo.chunk_words (words_in_segment geo) (length words) enough range length_is in
     bytes_len (take pk (drop (at + 2 + 0) words))
     ∙ ap (λ (n : ℕ). 8 * n) (length-take-le pk (drop (at + 2 + 0) words) (behind at pk pv (length words) (drop (at + 2 + 0) words) (length-drop (at + 2 + 0) words) room))
   where
@@ -135,7 +135,7 @@ key_size geo words place chunk head many low inside =
 -- an entry that is read has a run
 stands_run : (geo : Geo) (words : List ℕ) (placed : Placed) → length words ≡ words_in_segment geo → placed.place < geo.tiers → Stands geo words placed → HasRun geo placed
 unfolding reading_at
-stands_run geo words placed many low stands =
+stands_run geo words placed length_is low stands =
     let at : ℕ = chunk_at geo placed.place placed.chunk in
     let head : ℕ = get_or words at 0 in
     let key : List ℕ = key_bytes geo words placed.place placed.chunk head in
@@ -143,9 +143,9 @@ stands_run geo words placed many low stands =
     let read : IsRead geo placed.chunk head (get_or words (at + 1) 0) key value (pair_of placed) = is_read geo placed.chunk head (get_or words (at + 1) 0) key value (pair_of placed) stands in
     let fit = lengths_are (key_len head) (value_len head) (need geo (key_len head) (value_len head)) placed.chunk geo.chunks read.fit in
     let key_length : length placed.key ≡ key_len head = ap (λ (l : List ℕ). length l) read.key_is
-    ∙ length-take-le (key_len head) key (whole_words (key_len head) (length key) (key_size geo words placed.place placed.chunk head many low fit.4)) in
+    ∙ length-take-le (key_len head) key (whole_words (key_len head) (length key) (key_size geo words placed.place placed.chunk head length_is low fit.4)) in
     let value_length : length placed.value ≡ value_len head = ap (λ (l : List ℕ). length l) read.value_is
-    ∙ length-take-le (value_len head) value (whole_words (value_len head) (length value) (value_size geo words placed.place placed.chunk head many low fit.4)) in
+    ∙ length-take-le (value_len head) value (whole_words (value_len head) (length value) (value_size geo words placed.place placed.chunk head length_is low fit.4)) in
     let fits : Fits geo (key_len head) (value_len head) = record { key_some = fit.0; key_short = fit.1; value_short = fit.2; few_chunks = fit.3 } in
     record { fits = rw (key_length, value_length) fits; inside = rw (key_length, value_length) fit.4 }
   where
@@ -164,12 +164,12 @@ record ArePlaced (geo : Geo) (segment : ℕ) (chain : List ℕ) (entries : List 
   keys : Pairs Differs entries
 
 -- one more slot
-placed_more : (geo : Geo) (segment : ℕ) (words places : List ℕ) (kept : Kept) (at : Occupied) → length words ≡ words_in_segment geo → AllByRecursion (λ place. place < geo.tiers) places
-    → ArePlaced geo segment places kept.entries → (it : Verdict) → verdict geo segment words places kept.entries at ≡ it → ArePlaced geo segment places (kept_with geo kept it).entries
-placed_more geo segment words places kept at many low was (is_dropped why) e = was
-placed_more geo segment words places kept at many low was (is_kept placed) e =
+placed_more : (geo : Geo) (segment : ℕ) (words places : List ℕ) (kept : KeptEntries) (at : OccupiedSlot) → length words ≡ words_in_segment geo → AllByRecursion (λ place. place < geo.tiers) places
+    → ArePlaced geo segment places kept.entries → (it : Judgement) → judgement geo segment words places kept.entries at ≡ it → ArePlaced geo segment places (kept_with geo kept it).entries
+placed_more geo segment words places kept at length_is low was (is_dropped why) e = was
+placed_more geo segment words places kept at length_is low was (is_kept placed) e =
     let slot = slot_kept geo segment words places kept.entries at placed e in
-    let run = stands_run geo words placed many (in_has (λ place. place < geo.tiers) places placed.place low slot.among) slot.reads in
+    let run = stands_run geo words placed length_is (in_has (λ place. place < geo.tiers) places placed.place low slot.among) slot.reads in
     let within : nat_le (placed.chunk + chunks_of geo placed) geo.chunks ≡ true = is_within (placed.chunk + chunks_of geo placed) geo.chunks run.inside in
     let alone = slot.free in
     let free : is_free geo kept.entries placed.place placed.chunk (chunks_of geo placed) ≡ true = rw (within, alone) refl in
@@ -189,21 +189,21 @@ placed_more geo segment words places kept at many low was (is_kept placed) e =
     clash : (b : Bool) → b ≡ true → b ≡ false → ⊥
     clash b one other = cc (sym one ∙ other)
 
-all_placed : (geo : Geo) (segment : ℕ) (words places : List ℕ) (kept : Kept) (slots : List Occupied) → length words ≡ words_in_segment geo → AllByRecursion (λ place. place < geo.tiers) places
+all_placed : (geo : Geo) (segment : ℕ) (words places : List ℕ) (kept : KeptEntries) (slots : List OccupiedSlot) → length words ≡ words_in_segment geo → AllByRecursion (λ place. place < geo.tiers) places
     → ArePlaced geo segment places kept.entries → ArePlaced geo segment places (kept_of geo segment words places kept slots).entries
-all_placed geo segment words places kept [] many low was = was
-all_placed geo segment words places kept (at ∷ slots) many low was =
-    all_placed geo segment words places (kept_with geo kept (verdict geo segment words places kept.entries at)) slots many low
-    (placed_more geo segment words places kept at many low was (verdict geo segment words places kept.entries at) refl)
+all_placed geo segment words places kept [] length_is low was = was
+all_placed geo segment words places kept (at ∷ slots) length_is low was =
+    all_placed geo segment words places (kept_with geo kept (judgement geo segment words places kept.entries at)) slots length_is low
+    (placed_more geo segment words places kept at length_is low was (judgement geo segment words places kept.entries at) refl)
 
 -- what is kept is a state
 pub any_state : (geo : Geo) (words_of : ℕ → List ℕ) (segment : ℕ) → length (words_of segment) ≡ words_in_segment geo → IsState geo segment (kept_state geo words_of segment)
 unfolding kept_in
-any_state geo words_of segment many =
+any_state geo words_of segment length_is =
     let chain = allowed_chain geo words_of segment in
-    let places : List ℕ = allowed geo words_of segment in
-    let entries : List Placed = (kept_of geo segment (words_of segment) places (record { entries = []; drops = [] }) (occupied geo (words_of segment))).entries in
-    let all : ArePlaced geo segment places entries = all_placed geo segment (words_of segment) places (record { entries = []; drops = [] }) (occupied geo (words_of segment)) many
+    let places : List ℕ = allowed_places geo words_of segment in
+    let entries : List Placed = (kept_of geo segment (words_of segment) places (record { entries = []; drops = [] }) (occupied_slots geo (words_of segment))).entries in
+    let all : ArePlaced geo segment places entries = all_placed geo segment (words_of segment) places (record { entries = []; drops = [] }) (occupied_slots geo (words_of segment)) length_is
     (recursion_from_All (λ place. place < geo.tiers) places chain.inside) (record { placed = tt; rising = tt; keys = tt }) in
     record {
       chain = chain;

@@ -16,21 +16,21 @@ use Rattle.cm_plain.specs.States.{HasRun, IsPlaced, IsState, State, chunks_of, v
 use Rattle.cm_plain.specs.Changes.{Change, after, entry_at}
 use Rattle.cm_plain.specs.Steps.{Plans}
 use Rattle.cm_plain.specs.Slots.{slot_for, word_at}
-use Rattle.cm_plain.specs.Readings.{HasKeyWords, Stands, head_of, wrong_checksum, wrong_filling}
-use Rattle.cm_plain.specs.Linked.{linked}
+use Rattle.cm_plain.specs.Readings.{HasKeyWords, Stands, head_of, wrong_checksum, wrong_padding}
+use Rattle.cm_plain.specs.FoundChains.{chain_of}
 use Rattle.cm_plain.specs.Torn.{BeginsAt, IsBetween, Torn}
 use Rattle.cm_plain.proofs.Apart.{chunks_some, shorter}
-use Rattle.cm_plain.proofs.Telling.{In, in_from, in_has, in_to}
+use Rattle.cm_plain.proofs.OneState.{In, in_from, in_has, in_to}
 use Rattle.cm_recover.specs.declared.cause.Cause.TheVariants as cause
-use Rattle.cm_recover.specs.Occupied.{Occupied}
-use Rattle.cm_recover.specs.Verdicts.{verdict}
-use Rattle.cm_recover.specs.Outcomes.{IsItsOutcome, sum_of}
-use Rattle.cm_recover.proofs.Between.{bad_filling, bad_sum, good, reads_key}
+use Rattle.cm_recover.specs.Occupied.{OccupiedSlot}
+use Rattle.cm_recover.specs.Judgements.{judgement}
+use Rattle.cm_recover.specs.Outcomes.{IsChangeOutcome, entry_checksum}
+use Rattle.cm_recover.proofs.InPlaceWords.{bad_filling, bad_sum, good, reads_key}
 use Rattle.cm_recover.proofs.Judging.{by_reading}
 use Rattle.cm_recover.proofs.Keeping.{IsJudged}
 use Rattle.cm_recover.proofs.Planned.{StaysAt, found_there, new_at, old_at, stays_at}
 use Rattle.cm_recover.proofs.Roles.{IsIts, IsOf, its_new, its_old, value_is}
-use Rattle.cm_recover.proofs.Together.{differs_in, placed_in, same_in}
+use Rattle.cm_recover.proofs.StatePairs.{differs_in, placed_in, same_in}
 use Rattle.cm_recover.proofs.Walking.{StandsIn}
 
 -- two lists of bytes are equal or not
@@ -44,7 +44,7 @@ same_or_not a b = elim (cases_Bool (bytes_eq a b)) [
 record IsBetweenAt (geo : Geo) (words : List ℕ) (place chunk : ℕ) (key old_value : List ℕ) (new : Placed) : Type 0 where
   head : (word_at words (chunk_at geo place chunk) ≡ head_of key old_value) ⊎ (word_at words (chunk_at geo place chunk) ≡ head_of key new.value)
   key_words : HasKeyWords geo words place chunk key
-  sum : (word_at words (chunk_at geo place chunk + 1) ≡ sum_of key old_value) ⊎ Stands geo words new
+  stored_checksum : (word_at words (chunk_at geo place chunk + 1) ≡ entry_checksum key old_value) ⊎ Stands geo words new
 
 between_at : (geo : Geo) (words : List ℕ) (place chunk : ℕ) (key : List ℕ) (old new : Placed) → old.place ≡ place → old.chunk ≡ chunk → old.key ≡ key → new.key ≡ key → IsBetween geo words old new
     → IsBetweenAt geo words place chunk key old.value new
@@ -57,7 +57,7 @@ between_at geo words place chunk key old new place_is chunk_is old_key new_key b
         | inr h ↦ inr (h ∙ ap (λ (k : List ℕ). head_of k new.value) (new_key ∙ sym old_key))
       ];
       key_words = between.key;
-      sum = between.sum;
+      stored_checksum = between.stored_checksum;
     })))
 
 -- the two entries between which a value is replaced in place, and where
@@ -87,8 +87,8 @@ record IsLike (geo : Geo) (state : State) (change : Change) (place chunk : ℕ) 
 
 -- a value as long with the old checksum is an outcome
 an_outcome : (geo : Geo) (segment : ℕ) (words : List ℕ) (state : State) (change : Change) (place chunk : ℕ) (old new : Placed) (it : List ℕ) → AreBoth geo segment words state change place chunk old new
-    → (length it ≡ length old.value) ⊎ (length it ≡ length new.value) → sum_of change.key it ≡ sum_of change.key old.value → IsItsOutcome geo state change (Some it)
-an_outcome geo segment words state change place chunk old new it both long sum = elim (same_or_not it old.value) [
+    → (length it ≡ length old.value) ⊎ (length it ≡ length new.value) → entry_checksum change.key it ≡ entry_checksum change.key old.value → IsChangeOutcome geo state change (Some it)
+an_outcome geo segment words state change place chunk old new it both long stored_checksum = elim (same_or_not it old.value) [
   | inl same ↦ inl (inl (both.old_value ∙ ap Some (sym same)))
   | inr not_old ↦ elim (same_or_not it new.value) [
     | inl same ↦ inl (inr (both.new_value ∙ ap Some (sym same)))
@@ -101,14 +101,14 @@ an_outcome geo segment words state change place chunk old new it both long sum =
       not_old = not_old;
       not_new = not_new;
       as_long = long;
-      sum_same = sum;
+      checksum_same = stored_checksum;
     })
   ]
 ]
 
 -- an entry with such a value may stand
 its_value : (geo : Geo) (state : State) (change : Change) (place chunk : ℕ) (like : Placed) (it : List ℕ) → IsLike geo state change place chunk like → length it ≡ length like.value
-    → IsItsOutcome geo state change (Some it) → IsIts geo state change (entry_at change.key it place chunk)
+    → IsChangeOutcome geo state change (Some it) → IsIts geo state change (entry_at change.key it place chunk)
 its_value geo state change place chunk like it is long outcome =
     let made : Placed = entry_at change.key it place chunk in
     let same : need geo (length change.key) (length it) ≡ chunks_of geo like = rw (is.its.key_is, long) refl in
@@ -127,16 +127,16 @@ run_of_value geo state change place chunk like it is long = record {
 }
 
 -- a slot of such an entry, by what is read there while the old checksum stands
-by_old_sum : (geo : Geo) (segment : ℕ) (words : List ℕ) (state : State) (change : Change) (at : Occupied) (chunk : ℕ) (old new like : Placed) → length words ≡ words_in_segment geo → StandsIn geo words at
+by_old_sum : (geo : Geo) (segment : ℕ) (words : List ℕ) (state : State) (change : Change) (at : OccupiedSlot) (chunk : ℕ) (old new like : Placed) → length words ≡ words_in_segment geo → StandsIn geo words at
     → at.slot ≡ slot_for geo change.key chunk → AreBoth geo segment words state change at.place chunk old new → IsLike geo state change at.place chunk like
     → ((it : List ℕ) → length it ≡ length like.value → (length it ≡ length old.value) ⊎ (length it ≡ length new.value))
     → word_at words (chunk_at geo at.place chunk) ≡ head_of change.key like.value → HasKeyWords geo words at.place chunk change.key
-    → word_at words (chunk_at geo at.place chunk + 1) ≡ sum_of change.key old.value
-    → IsJudged (verdict geo segment words (linked geo words).places) (IsOf geo segment words state change) at
-by_old_sum geo segment words state change at chunk old new like many stands slot_is both is long head has_key sum =
-    elim (reads_key geo words at.place chunk change.key like.value many both.low fits inside head has_key) [
-      | bad_sum e ↦ inr (record { why = cause.Checksum; of_torn = tt; is = λ kept. by_reading geo segment words (linked geo words).places kept at change.key chunk wrong_checksum stands.chained slot_is low e })
-      | bad_filling e ↦ inr (record { why = cause.Padding; of_torn = tt; is = λ kept. by_reading geo segment words (linked geo words).places kept at change.key chunk wrong_filling stands.chained slot_is low e })
+    → word_at words (chunk_at geo at.place chunk + 1) ≡ entry_checksum change.key old.value
+    → IsJudged (judgement geo segment words (chain_of geo words).places) (IsOf geo segment words state change) at
+by_old_sum geo segment words state change at chunk old new like length_is stands slot_is both is long head has_key stored_checksum =
+    elim (reads_key geo words at.place chunk change.key like.value length_is both.low fits inside head has_key) [
+      | bad_sum e ↦ inr (record { why = cause.Checksum; of_torn = tt; is = λ kept. by_reading geo segment words (chain_of geo words).places kept at change.key chunk wrong_checksum stands.chained slot_is low e })
+      | bad_filling e ↦ inr (record { why = cause.Padding; of_torn = tt; is = λ kept. by_reading geo segment words (chain_of geo words).places kept at change.key chunk wrong_padding stands.chained slot_is low e })
       | good it reads as_long sum_is ↦ inl (
         entry_at change.key it at.place chunk,
         record {
@@ -144,7 +144,7 @@ by_old_sum geo segment words state change at chunk old new like many stands slot
             here = (sym (ap (segment_of_key geo) both.old_key)) ∙ both.old_is.here;
             chained = stands.chained;
             run = run_of_value geo state change at.place chunk like it is as_long;
-            role = inr (its_value geo state change at.place chunk like it is as_long (an_outcome geo segment words state change at.place chunk old new it both (long it as_long) (sum_is ∙ sum)));
+            role = inr (its_value geo state change at.place chunk like it is as_long (an_outcome geo segment words state change at.place chunk old new it both (long it as_long) (sum_is ∙ stored_checksum)));
           };
           place_is = refl;
           slot_is = slot_is;
@@ -213,23 +213,23 @@ has_both geo segment words state op change place chunk is plans torn in_place be
     position stays i key_is (inr h) = subst (λ (r : Option Run). BeginsAt r place chunk) stays.run_is h
 
 -- such a slot is of an entry that may be kept, or it is dropped for its checksum or its filling
-pub in_place_judged : (geo : Geo) (segment : ℕ) (words : List ℕ) (state : State) (op : Op) (change : Change) (at : Occupied) (chunk : ℕ) → length words ≡ words_in_segment geo → IsState geo segment state
+pub in_place_judged : (geo : Geo) (segment : ℕ) (words : List ℕ) (state : State) (op : Op) (change : Change) (at : OccupiedSlot) (chunk : ℕ) → length words ≡ words_in_segment geo → IsState geo segment state
     → Plans geo segment state op change → Torn geo words state change → change.kind ≡ kind.InPlace → StandsIn geo words at → BeginsAt change.old_run at.place chunk ⊎ BeginsAt change.new_run at.place chunk
-    → at.slot ≡ slot_for geo change.key chunk → IsJudged (verdict geo segment words (linked geo words).places) (IsOf geo segment words state change) at
-in_place_judged geo segment words state op change at chunk many is plans torn in_place stands begins slot_is =
+    → at.slot ≡ slot_for geo change.key chunk → IsJudged (judgement geo segment words (chain_of geo words).places) (IsOf geo segment words state change) at
+in_place_judged geo segment words state op change at chunk length_is is plans torn in_place stands begins slot_is =
     let has = has_both geo segment words state op change at.place chunk is plans torn in_place begins in
     let both = has.both in
     let like_old : IsLike geo state change at.place chunk has.old =
     record { its = its_old geo segment state change has.old is both.old_in both.old_key; place_is = both.old_place; chunk_is = both.old_chunk; run = both.old_is.run } in
     let like_new : IsLike geo state change at.place chunk has.new =
     record { its = its_new geo segment state op change has.new is plans both.new_in both.new_key; place_is = both.new_place; chunk_is = both.new_chunk; run = both.new_is.run } in
-    elim both.between.sum [
+    elim both.between.stored_checksum [
       | inr reads ↦ inl (
         has.new,
         record {
           may = record {
             here = both.new_is.here;
-            chained = subst (λ (p : ℕ). In p (linked geo words).places) (sym both.new_place) stands.chained;
+            chained = subst (λ (p : ℕ). In p (chain_of geo words).places) (sym both.new_place) stands.chained;
             run = both.new_is.run;
             role = inr like_new.its;
           };
@@ -238,8 +238,8 @@ in_place_judged geo segment words state op change at chunk many is plans torn in
           reads = reads;
         },
       )
-      | inl sum ↦ elim both.between.head [
-        | inl head ↦ by_old_sum geo segment words state change at chunk has.old has.new has.old many stands slot_is both like_old (λ it long. inl long) head both.between.key_words sum
-        | inr head ↦ by_old_sum geo segment words state change at chunk has.old has.new has.new many stands slot_is both like_new (λ it long. inr long) head both.between.key_words sum
+      | inl stored_checksum ↦ elim both.between.head [
+        | inl head ↦ by_old_sum geo segment words state change at chunk has.old has.new has.old length_is stands slot_is both like_old (λ it long. inl long) head both.between.key_words stored_checksum
+        | inr head ↦ by_old_sum geo segment words state change at chunk has.old has.new has.new length_is stands slot_is both like_new (λ it long. inr long) head both.between.key_words stored_checksum
       ]
     ]

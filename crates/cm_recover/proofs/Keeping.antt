@@ -14,15 +14,15 @@ use Rattle.cm_plain.proofs.Each.{Pairs, each_append, each_both, each_fails, each
 use Rattle.cm_plain.proofs.Apart.{IsApart, Rising, chunks_some, rising_with}
 use Rattle.cm_plain.proofs.Placing.{each_with, keys_with}
 use Rattle.cm_plain.proofs.States.{Differs}
-use Rattle.cm_plain.proofs.Telling.{In, in_has}
-use Rattle.cm_plain.proofs.Resting.{in_kept_to}
+use Rattle.cm_plain.proofs.OneState.{In, in_has}
+use Rattle.cm_plain.proofs.RestingTorn.{in_kept_to}
 use Rattle.cm_recover.specs.declared.cause.Cause.{Cause}
 use Rattle.cm_recover.specs.declared.cause.Cause.TheVariants as cause
-use Rattle.cm_recover.specs.Occupied.{Occupied}
-use Rattle.cm_recover.specs.Verdicts.{Verdict, is_dropped, is_kept, verdict_beside}
-use Rattle.cm_recover.specs.Kept.{Kept, kept_with}
+use Rattle.cm_recover.specs.Occupied.{OccupiedSlot}
+use Rattle.cm_recover.specs.Judgements.{Judgement, is_dropped, is_kept, judgement_beside}
+use Rattle.cm_recover.specs.KeptSlots.{KeptEntries, kept_with}
 use Rattle.cm_recover.specs.Laws.{IsCauseOfTorn}
-use Rattle.cm_recover.proofs.Elements.{in_left, in_right}
+use Rattle.cm_recover.proofs.ListElements.{in_left, in_right}
 
 -- on numbers: runs that are apart don't meet
 far : (same : Bool) (chunk chunks chunk' chunks' : ℕ) → (chunk + chunks ≤ chunk') ⊎ (chunk' + chunks' ≤ chunk) → (same && (nat_lt chunk (chunk' + chunks') && nat_lt chunk' (chunk + chunks))) ≡ false
@@ -83,20 +83,20 @@ stays_with geo placed entries other ne i =
 
 -- What is kept is sound: its entries may be kept, they stand in the order of their runs and have different keys, and drops are for the causes
 -- of torn words.
-pub record IsSound (geo : Geo) (May : Placed → Type 0) (kept : Kept) : Type 0 where
+pub record IsSound (geo : Geo) (May : Placed → Type 0) (kept : KeptEntries) : Type 0 where
   pub may : AllByRecursion May kept.entries
   pub rising : Pairs (Rising geo) kept.entries
   pub keys : Pairs Differs kept.entries
   pub drops : AllByRecursion IsCauseOfTorn kept.drops
 
 -- an entry with this key is kept
-pub record HasKey (kept : Kept) (key : List ℕ) : Type 0 where
+pub record HasKey (kept : KeptEntries) (key : List ℕ) : Type 0 where
   pub placed : Placed
   pub is_in : In placed kept.entries
   pub key_is : placed.key ≡ key
 
 -- more is kept than before, and it is sound
-pub record IsMore (geo : Geo) (May : Placed → Type 0) (before later : Kept) : Type 0 where
+pub record IsMore (geo : Geo) (May : Placed → Type 0) (before later : KeptEntries) : Type 0 where
   pub sound : IsSound geo May later
   pub stays : (placed : Placed) → In placed before.entries → In placed later.entries
 
@@ -105,7 +105,7 @@ abbrev pub AreAlone : Geo → (Placed → Type 0) → Type 0
 AreAlone geo May = (one other : Placed) → May one → May other → one.key ≢ other.key → IsApart geo one other
 
 -- one more drop
-dropped : (geo : Geo) (May : Placed → Type 0) (kept : Kept) (why : Cause) → IsSound geo May kept → IsCauseOfTorn why → IsMore geo May kept (kept_with geo kept (is_dropped why))
+dropped : (geo : Geo) (May : Placed → Type 0) (kept : KeptEntries) (why : Cause) → IsSound geo May kept → IsCauseOfTorn why → IsMore geo May kept (kept_with geo kept (is_dropped why))
 dropped geo May kept why sound is = record {
   sound = record { may = sound.may; rising = sound.rising; keys = sound.keys; drops = each_append IsCauseOfTorn kept.drops (why ∷ []) sound.drops (is, tt) };
   stays = λ placed i. i;
@@ -115,15 +115,15 @@ dropped geo May kept why sound is = record {
 abbrev pub AreOthers : Placed → List Placed → Type 0
 AreOthers placed entries = AllByRecursion (λ other. other.key ≢ placed.key) entries
 
-apart_from : (geo : Geo) (May : Placed → Type 0) (kept : Kept) (placed : Placed) → AreAlone geo May → IsSound geo May kept → May placed → AreOthers placed kept.entries
+apart_from : (geo : Geo) (May : Placed → Type 0) (kept : KeptEntries) (placed : Placed) → AreAlone geo May → IsSound geo May kept → May placed → AreOthers placed kept.entries
     → AllByRecursion (λ other. IsApart geo other placed) kept.entries
 apart_from geo May kept placed alone sound may others =
     each_both May (λ other. other.key ≢ placed.key) (λ other. IsApart geo other placed) (λ other m ne. alone other placed m may ne) kept.entries sound.may others
 
 -- an entry of a new key is kept
-pub verdict_new : (geo : Geo) (May : Placed → Type 0) (kept : Kept) (placed : Placed) → AreAlone geo May → IsSound geo May kept → May placed → AreOthers placed kept.entries
-    → verdict_beside geo kept.entries placed ≡ is_kept placed
-verdict_new geo May kept placed alone sound may others =
+pub judgement_new : (geo : Geo) (May : Placed → Type 0) (kept : KeptEntries) (placed : Placed) → AreAlone geo May → IsSound geo May kept → May placed → AreOthers placed kept.entries
+    → judgement_beside geo kept.entries placed ≡ is_kept placed
+judgement_new geo May kept placed alone sound may others =
     let new : list_any (λ other. bytes_eq other.key placed.key) kept.entries ≡ false =
     none_any (λ other. bytes_eq other.key placed.key) kept.entries (each_weaker (λ other. other.key ≢ placed.key) (λ other. bytes_eq other.key placed.key ≡ false) (λ other ne. differs other.key placed.key ne) kept.entries others) in
     let free : list_any (meets geo placed.place placed.chunk (chunks_of geo placed)) kept.entries ≡ false =
@@ -138,7 +138,7 @@ verdict_new geo May kept placed alone sound may others =
     ]
 
 -- and what is kept is sound with it
-pub more_new : (geo : Geo) (May : Placed → Type 0) (kept : Kept) (placed : Placed) → AreAlone geo May → IsSound geo May kept → May placed → AreOthers placed kept.entries
+pub more_new : (geo : Geo) (May : Placed → Type 0) (kept : KeptEntries) (placed : Placed) → AreAlone geo May → IsSound geo May kept → May placed → AreOthers placed kept.entries
     → IsMore geo May kept (kept_with geo kept (is_kept placed))
 more_new geo May kept placed alone sound may others =
     let apart = apart_from geo May kept placed alone sound may others in
@@ -156,17 +156,17 @@ more_new geo May kept placed alone sound may others =
     has_apart other i apart = in_has (λ other. IsApart geo other placed) kept.entries other apart i
 
 -- one more slot that reads an entry
-record Reads (geo : Geo) (May : Placed → Type 0) (before later : Kept) (placed : Placed) : Type 0 where
+record Reads (geo : Geo) (May : Placed → Type 0) (before later : KeptEntries) (placed : Placed) : Type 0 where
   more : IsMore geo May before later
   has : HasKey later placed.key
 
-reads_more : (geo : Geo) (May : Placed → Type 0) (kept : Kept) (placed : Placed) → AreAlone geo May → IsSound geo May kept → May placed
-    → Reads geo May kept (kept_with geo kept (verdict_beside geo kept.entries placed)) placed
+reads_more : (geo : Geo) (May : Placed → Type 0) (kept : KeptEntries) (placed : Placed) → AreAlone geo May → IsSound geo May kept → May placed
+    → Reads geo May kept (kept_with geo kept (judgement_beside geo kept.entries placed)) placed
 reads_more geo May kept placed alone sound may = elim (cases_Bool (list_any (λ other. bytes_eq other.key placed.key) kept.entries)) [
   | inl there ↦
       (let one = some_any (λ other. bytes_eq other.key placed.key) kept.entries there in
-      let is : verdict_beside geo kept.entries placed ≡ is_dropped cause.Duplicate = rw there refl in
-      subst (λ (v : Verdict). Reads geo May kept (kept_with geo kept v) placed) (sym is) (record {
+      let is : judgement_beside geo kept.entries placed ≡ is_dropped cause.Duplicate = rw there refl in
+      subst (λ (v : Judgement). Reads geo May kept (kept_with geo kept v) placed) (sym is) (record {
         more = dropped geo May kept cause.Duplicate sound tt;
         has = record { placed = one.0; is_in = one.1; key_is = (bytes_eq-Decides one.0.key placed.key).0 one.2 };
       }))
@@ -174,7 +174,7 @@ reads_more geo May kept placed alone sound may = elim (cases_Bool (list_any (λ 
       (let others : AreOthers placed kept.entries =
       each_weaker (λ other. bytes_eq other.key placed.key ≡ false) (λ other. other.key ≢ placed.key) (λ other fails same. clash (bytes_eq other.key placed.key) ((bytes_eq-Decides other.key placed.key).1 same) fails) kept.entries
       (each_fails (λ other. bytes_eq other.key placed.key) kept.entries none) in
-      subst (λ (v : Verdict). Reads geo May kept (kept_with geo kept v) placed) (sym (verdict_new geo May kept placed alone sound may others)) (record {
+      subst (λ (v : Judgement). Reads geo May kept (kept_with geo kept v) placed) (sym (judgement_new geo May kept placed alone sound may others)) (record {
         more = more_new geo May kept placed alone sound may others;
         has = record { placed = placed; is_in = in_with geo placed kept.entries; key_is = refl };
       }))
@@ -184,47 +184,47 @@ reads_more geo May kept placed alone sound may = elim (cases_Bool (list_any (λ 
     clash b one other = cc (sym one ∙ other)
 
 -- A judge of slots: where a slot is of an entry, that may be kept, and it is unless its key was kept already.
-pub record IsJudge (geo : Geo) (judge : List Placed → Occupied → Verdict) (May : Placed → Type 0) (Of : Occupied → Placed → Type 0) : Type 0 where
+pub record IsJudge (geo : Geo) (judge : List Placed → OccupiedSlot → Judgement) (May : Placed → Type 0) (Of : OccupiedSlot → Placed → Type 0) : Type 0 where
   pub alone : AreAlone geo May
-  pub may : (at : Occupied) (placed : Placed) → Of at placed → May placed
-  pub beside : (at : Occupied) (placed : Placed) (kept : List Placed) → Of at placed → judge kept at ≡ verdict_beside geo kept placed
+  pub may : (at : OccupiedSlot) (placed : Placed) → Of at placed → May placed
+  pub beside : (at : OccupiedSlot) (placed : Placed) (kept : List Placed) → Of at placed → judge kept at ≡ judgement_beside geo kept placed
 
 -- a slot is dropped, whatever was kept before
-pub record IsDropped (judge : List Placed → Occupied → Verdict) (at : Occupied) : Type 0 where
+pub record IsDropped (judge : List Placed → OccupiedSlot → Judgement) (at : OccupiedSlot) : Type 0 where
   pub why : Cause
   pub of_torn : IsCauseOfTorn why
   pub is : (kept : List Placed) → judge kept at ≡ is_dropped why
 
 -- a slot is of an entry, or it is dropped
-abbrev pub IsJudged : (List Placed → Occupied → Verdict) → (Occupied → Placed → Type 0) → Occupied → Type 0
+abbrev pub IsJudged : (List Placed → OccupiedSlot → Judgement) → (OccupiedSlot → Placed → Type 0) → OccupiedSlot → Type 0
 IsJudged judge Of at = ((placed : Placed) × Of at placed) ⊎ IsDropped judge at
 
 -- what is kept of slots, one after the other
-abbrev pub kept_by : Geo → (List Placed → Occupied → Verdict) → Kept → List Occupied → Kept
+abbrev pub kept_by : Geo → (List Placed → OccupiedSlot → Judgement) → KeptEntries → List OccupiedSlot → KeptEntries
 kept_by geo judge before slots = fold (λ kept at. kept_with geo kept (judge kept.entries at)) before slots
 
 -- it is more, and has the key of each entry that a slot is of
-pub record IsKeeping (geo : Geo) (May : Placed → Type 0) (Of : Occupied → Placed → Type 0) (before : Kept) (slots : List Occupied) (later : Kept) : Type 0 where
+pub record IsKeeping (geo : Geo) (May : Placed → Type 0) (Of : OccupiedSlot → Placed → Type 0) (before : KeptEntries) (slots : List OccupiedSlot) (later : KeptEntries) : Type 0 where
   pub more : IsMore geo May before later
-  pub has : (at : Occupied) (placed : Placed) → In at slots → Of at placed → HasKey later placed.key
+  pub has : (at : OccupiedSlot) (placed : Placed) → In at slots → Of at placed → HasKey later placed.key
 
 -- one slot more
-of_more : (geo : Geo) (judge : List Placed → Occupied → Verdict) (May : Placed → Type 0) (Of : Occupied → Placed → Type 0) (kept : Kept) (at : Occupied) (placed : Placed)
+of_more : (geo : Geo) (judge : List Placed → OccupiedSlot → Judgement) (May : Placed → Type 0) (Of : OccupiedSlot → Placed → Type 0) (kept : KeptEntries) (at : OccupiedSlot) (placed : Placed)
     → IsJudge geo judge May Of → IsSound geo May kept → Of at placed → Reads geo May kept (kept_with geo kept (judge kept.entries at)) placed
 of_more geo judge May Of kept at placed is sound of =
-    subst (λ (v : Verdict). Reads geo May kept (kept_with geo kept v) placed) (sym (is.beside at placed kept.entries of)) (reads_more geo May kept placed is.alone sound (is.may at placed of))
+    subst (λ (v : Judgement). Reads geo May kept (kept_with geo kept v) placed) (sym (is.beside at placed kept.entries of)) (reads_more geo May kept placed is.alone sound (is.may at placed of))
 
-one_more : (geo : Geo) (judge : List Placed → Occupied → Verdict) (May : Placed → Type 0) (Of : Occupied → Placed → Type 0) (kept : Kept) (at : Occupied)
+one_more : (geo : Geo) (judge : List Placed → OccupiedSlot → Judgement) (May : Placed → Type 0) (Of : OccupiedSlot → Placed → Type 0) (kept : KeptEntries) (at : OccupiedSlot)
     → IsJudge geo judge May Of → IsSound geo May kept → IsJudged judge Of at → IsMore geo May kept (kept_with geo kept (judge kept.entries at))
 one_more geo judge May Of kept at is sound (inl of) = (of_more geo judge May Of kept at of.0 is sound of.1).more
 one_more geo judge May Of kept at is sound (inr drop) =
-    subst (λ (v : Verdict). IsMore geo May kept (kept_with geo kept v)) (sym (drop.is kept.entries)) (dropped geo May kept drop.why sound drop.of_torn)
+    subst (λ (v : Judgement). IsMore geo May kept (kept_with geo kept v)) (sym (drop.is kept.entries)) (dropped geo May kept drop.why sound drop.of_torn)
 
-pub keeps : (geo : Geo) (judge : List Placed → Occupied → Verdict) (May : Placed → Type 0) (Of : Occupied → Placed → Type 0) (before : Kept) (slots : List Occupied)
+pub keeps : (geo : Geo) (judge : List Placed → OccupiedSlot → Judgement) (May : Placed → Type 0) (Of : OccupiedSlot → Placed → Type 0) (before : KeptEntries) (slots : List OccupiedSlot)
     → IsJudge geo judge May Of → IsSound geo May before → AllByRecursion (IsJudged judge Of) slots → IsKeeping geo May Of before slots (kept_by geo judge before slots)
 keeps geo judge May Of before [] is sound judged = record { more = record { sound = sound; stays = λ placed i. i }; has = λ at placed i of. absurd i }
 keeps geo judge May Of before (at ∷ slots) is sound judged =
-    let next : Kept = kept_with geo before (judge before.entries at) in
+    let next : KeptEntries = kept_with geo before (judge before.entries at) in
     let more = one_more geo judge May Of before at is sound judged.0 in
     let later = keeps geo judge May Of next slots is more.sound judged.1 in
     record {
@@ -232,10 +232,10 @@ keeps geo judge May Of before (at ∷ slots) is sound judged =
       has = has_each next (kept_by geo judge next slots) later refl;
     }
   where
-    has_each : (next later : Kept) → IsKeeping geo May Of next slots later → kept_with geo before (judge before.entries at) ≡ next
-        → (at' : Occupied) (placed : Placed) → In at' (at ∷ slots) → Of at' placed → HasKey later placed.key
+    has_each : (next later : KeptEntries) → IsKeeping geo May Of next slots later → kept_with geo before (judge before.entries at) ≡ next
+        → (at' : OccupiedSlot) (placed : Placed) → In at' (at ∷ slots) → Of at' placed → HasKey later placed.key
     has_each next later is_later e at' placed (inl same) of =
-        let here = (of_more geo judge May Of before at placed is sound (subst (λ (o : Occupied). Of o placed) same of)).has in
-        let has : HasKey next placed.key = subst (λ (k : Kept). HasKey k placed.key) e here in
+        let here = (of_more geo judge May Of before at placed is sound (subst (λ (o : OccupiedSlot). Of o placed) same of)).has in
+        let has : HasKey next placed.key = subst (λ (k : KeptEntries). HasKey k placed.key) e here in
         record { placed = has.placed; is_in = is_later.more.stays has.placed has.is_in; key_is = has.key_is }
     has_each next later is_later e at' placed (inr i) of = is_later.has at' placed i of

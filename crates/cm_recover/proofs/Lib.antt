@@ -1,19 +1,19 @@
 -- The lemmas of the crate.
-pub mod Elements
+pub mod ListElements
 pub mod Walking
 pub mod Allowing
 pub mod Keeping
 pub mod Dropping
 pub mod Judging
-pub mod Together
-pub mod Lawfully
+pub mod StatePairs
+pub mod LawfulWords
 pub mod Planned
-pub mod Between
+pub mod InPlaceWords
 pub mod Roles
 pub mod InPlace
 pub mod TornSlots
-pub mod Ending
+pub mod TornOutcome
 pub mod AnyChain
 pub mod AnyEntries
-pub mod Again
+pub mod SecondRecovery
 pub mod Zeros

@@ -12,7 +12,7 @@ use Rattle.cm_plain.specs.declared.plan.Run.{Run}
 use Rattle.cm_plain.specs.declared.plan.PlanKind.TheVariants as kind
 use Rattle.cm_plain.specs.declared.room.Room.{Room}
 use Rattle.cm_plain.specs.declared.room.Room.TheVariants.{InPlace, Elsewhere, NewTier, Nowhere}
-use Rattle.cm_plain.specs.States.{IsState, State, found, found_among}
+use Rattle.cm_plain.specs.States.{IsState, State, entry_of, entry_among}
 use Rattle.cm_plain.specs.Rooms.{room_for, spot_in}
 use Rattle.cm_plain.specs.Changes.{Change, after, change_of, entry_at, kind_in, placed_value, run_at, run_of, without}
 use Rattle.cm_plain.specs.Steps.{Plans}
@@ -20,25 +20,25 @@ use Rattle.cm_plain.specs.Torn.{BeginsAt}
 use Rattle.cm_plain.proofs.Apart.{IsApart}
 use Rattle.cm_plain.proofs.Each.{found_has, found_passes}
 use Rattle.cm_plain.proofs.Placing.{goes_in}
-use Rattle.cm_plain.proofs.Telling.{In, in_has, in_to}
-use Rattle.cm_plain.proofs.Resting.{goes, in_kept_to, old_run_is}
-use Rattle.cm_recover.proofs.Elements.{all_in}
+use Rattle.cm_plain.proofs.OneState.{In, in_has, in_to}
+use Rattle.cm_plain.proofs.RestingTorn.{goes, in_kept_to, old_run_is}
+use Rattle.cm_recover.proofs.ListElements.{all_in}
 use Rattle.cm_recover.proofs.Keeping.{in_with}
-use Rattle.cm_recover.proofs.Together.{placed_in}
+use Rattle.cm_recover.proofs.StatePairs.{placed_in}
 
 -- what is found is there, and has the key
 pub record IsFound (key : List ℕ) (entries : List Placed) (placed : Placed) : Type 0 where
   pub is_in : In placed entries
   pub key_is : placed.key ≡ key
 
-pub found_there : (key : List ℕ) (entries : List Placed) (placed : Placed) → found_among key entries ≡ Some placed → IsFound key entries placed
+pub found_there : (key : List ℕ) (entries : List Placed) (placed : Placed) → entry_among key entries ≡ Some placed → IsFound key entries placed
 found_there key entries placed e = record {
   is_in = found_has (λ it. In it entries) (λ entry. bytes_eq entry.key key) entries placed (all_in (λ it. In it entries) entries (λ it i. i)) e;
   key_is = (bytes_eq-Decides placed.key key).0 (found_passes (λ entry. bytes_eq entry.key key) entries placed e);
 }
 
 -- where no entry has the key, none is found
-pub found_none : (key : List ℕ) (entries : List Placed) → ((placed : Placed) → In placed entries → placed.key ≢ key) → found_among key entries ≡ None
+pub found_none : (key : List ℕ) (entries : List Placed) → ((placed : Placed) → In placed entries → placed.key ≢ key) → entry_among key entries ≡ None
 found_none key [] other = refl
 found_none key (placed ∷ entries) other =
     let fails : bytes_eq placed.key key ≡ false = elim (cases_Bool (bytes_eq placed.key key)) [
@@ -59,10 +59,10 @@ pub record IsAtEntry (entries : List Placed) (key : List ℕ) (place chunk : ℕ
 pub old_at : (geo : Geo) (segment : ℕ) (state : State) (op : Op) (change : Change) (place chunk : ℕ) → Plans geo segment state op change → BeginsAt change.old_run place chunk
     → IsAtEntry state.entries change.key place chunk
 old_at geo segment state op change place chunk plans begins =
-    let run : change.old_run ≡ option_map (run_of geo) (found change.key state) = ap (λ (c : Change). c.old_run) plans.change_is ∙ old_run_is geo state op change.key (placed_value op) in
-    by (found change.key state) refl (subst (λ (r : Option Run). BeginsAt r place chunk) run begins)
+    let run : change.old_run ≡ option_map (run_of geo) (entry_of change.key state) = ap (λ (c : Change). c.old_run) plans.change_is ∙ old_run_is geo state op change.key (placed_value op) in
+    by (entry_of change.key state) refl (subst (λ (r : Option Run). BeginsAt r place chunk) run begins)
   where
-    by : (old : Option Placed) → found change.key state ≡ old → BeginsAt (option_map (run_of geo) old) place chunk → IsAtEntry state.entries change.key place chunk
+    by : (old : Option Placed) → entry_of change.key state ≡ old → BeginsAt (option_map (run_of geo) old) place chunk → IsAtEntry state.entries change.key place chunk
     by None e h = absurd h
     by (Some old) e h =
         let there = found_there change.key state.entries old e in
@@ -104,11 +104,11 @@ new_apart geo segment state op change placed other is plans i key_is j ne =
 -- a change in place: its new run begins where the old entry stands
 pub record StaysAt (geo : Geo) (state : State) (key : List ℕ) (new_run : Option Run) : Type 0 where
   pub old : Placed
-  pub old_is : found key state ≡ Some old
+  pub old_is : entry_of key state ≡ Some old
   pub chunks : ℕ
   pub run_is : new_run ≡ Some (run_at chunks (record { place = old.place; chunk = old.chunk }))
 
-stays_in : (geo : Geo) (state : State) (key : List ℕ) (chunks : ℕ) (room : Room) (old : Option Placed) → found key state ≡ old → kind_in room old ≡ kind.InPlace
+stays_in : (geo : Geo) (state : State) (key : List ℕ) (chunks : ℕ) (room : Room) (old : Option Placed) → entry_of key state ≡ old → kind_in room old ≡ kind.InPlace
     → StaysAt geo state key (option_map (run_at chunks) (spot_in room old))
 stays_in geo state key chunks room None is e = cc e
 stays_in geo state key chunks InPlace (Some old) is e = record { old = old; old_is = is; chunks = chunks; run_is = refl }
@@ -119,7 +119,7 @@ stays_in geo state key chunks Nowhere (Some old) is e = cc e
 stays_by : (geo : Geo) (state : State) (op : Op) (key : List ℕ) (value : Option (List ℕ)) → (change_of geo state op key value).kind ≡ kind.InPlace → StaysAt geo state key (change_of geo state op key value).new_run
 stays_by geo state op key None e = cc e
 stays_by geo state op key (Some value) e =
-    stays_in geo state key (need geo (length key) (length value)) (room_for geo state key (need geo (length key) (length value))) (found key state) refl e
+    stays_in geo state key (need geo (length key) (length value)) (room_for geo state key (need geo (length key) (length value))) (entry_of key state) refl e
 
 pub stays_at : (geo : Geo) (segment : ℕ) (state : State) (op : Op) (change : Change) → Plans geo segment state op change → change.kind ≡ kind.InPlace → StaysAt geo state change.key change.new_run
 stays_at geo segment state op change plans in_place =

@@ -9,17 +9,17 @@ use Rattle.cm_plain.specs.Changes.{Change, after}
 use Rattle.cm_plain.specs.Steps.{Plans}
 use Rattle.cm_plain.specs.Slots.{slot_for}
 use Rattle.cm_plain.specs.Readings.{Stands}
-use Rattle.cm_plain.specs.Linked.{linked}
+use Rattle.cm_plain.specs.FoundChains.{chain_of}
 use Rattle.cm_plain.proofs.Apart.{IsApart, chunks_some}
-use Rattle.cm_plain.proofs.Telling.{In, in_to}
-use Rattle.cm_plain.proofs.Resting.{found_is}
-use Rattle.cm_recover.specs.Occupied.{Occupied}
-use Rattle.cm_recover.specs.Verdicts.{verdict}
-use Rattle.cm_recover.specs.Outcomes.{IsItsOutcome}
+use Rattle.cm_plain.proofs.OneState.{In, in_to}
+use Rattle.cm_plain.proofs.RestingTorn.{found_is}
+use Rattle.cm_recover.specs.Occupied.{OccupiedSlot}
+use Rattle.cm_recover.specs.Judgements.{judgement}
+use Rattle.cm_recover.specs.Outcomes.{IsChangeOutcome}
 use Rattle.cm_recover.proofs.Keeping.{AreAlone, IsJudge}
 use Rattle.cm_recover.proofs.Judging.{by_entry}
 use Rattle.cm_recover.proofs.Planned.{new_apart}
-use Rattle.cm_recover.proofs.Together.{apart_in, rising_in}
+use Rattle.cm_recover.proofs.StatePairs.{apart_in, rising_in}
 
 -- an entry of another key than the change's
 pub record IsTheirs (state : State) (change : Change) (placed : Placed) : Type 0 where
@@ -30,17 +30,17 @@ pub record IsTheirs (state : State) (change : Change) (placed : Placed) : Type 0
 pub record IsIts (geo : Geo) (state : State) (change : Change) (placed : Placed) : Type 0 where
   pub key_is : placed.key ≡ change.key
   pub apart : (other : Placed) → IsTheirs state change other → IsApart geo other placed
-  pub outcome : IsItsOutcome geo state change (Some placed.value)
+  pub outcome : IsChangeOutcome geo state change (Some placed.value)
 
 -- an entry that may be kept
 pub record MayBeKept (geo : Geo) (segment : ℕ) (words : List ℕ) (state : State) (change : Change) (placed : Placed) : Type 0 where
   pub here : segment_of_key geo placed.key ≡ segment
-  pub chained : In placed.place (linked geo words).places
+  pub chained : In placed.place (chain_of geo words).places
   pub run : HasRun geo placed
   pub role : IsTheirs state change placed ⊎ IsIts geo state change placed
 
 -- a slot is of an entry that may be kept
-pub record IsOf (geo : Geo) (segment : ℕ) (words : List ℕ) (state : State) (change : Change) (at : Occupied) (placed : Placed) : Type 0 where
+pub record IsOf (geo : Geo) (segment : ℕ) (words : List ℕ) (state : State) (change : Change) (at : OccupiedSlot) (placed : Placed) : Type 0 where
   pub may : MayBeKept geo segment words state change placed
   pub place_is : placed.place ≡ at.place
   pub slot_is : at.slot ≡ slot_for geo placed.key placed.chunk
@@ -66,11 +66,11 @@ begins_low geo placed run = omega (arith, run.inside, chunks_some geo placed)
 
 -- so slots are judged by their entries
 pub judges : (geo : Geo) (segment : ℕ) (words : List ℕ) (state : State) (change : Change) → IsState geo segment state
-    → IsJudge geo (verdict geo segment words (linked geo words).places) (MayBeKept geo segment words state change) (IsOf geo segment words state change)
+    → IsJudge geo (judgement geo segment words (chain_of geo words).places) (MayBeKept geo segment words state change) (IsOf geo segment words state change)
 judges geo segment words state change is = record {
   alone = alone geo segment words state change is;
   may = λ at placed of. of.may;
-  beside = λ at placed kept of. by_entry geo segment words (linked geo words).places kept at placed (subst (λ (p : ℕ). In p (linked geo words).places) of.place_is of.may.chained) of.place_is of.slot_is
+  beside = λ at placed kept of. by_entry geo segment words (chain_of geo words).places kept at placed (subst (λ (p : ℕ). In p (chain_of geo words).places) of.place_is of.may.chained) of.place_is of.slot_is
       (begins_low geo placed of.may.run) of.reads of.may.here;
 }
 

@@ -9,17 +9,17 @@ use Rattle.cm_plain.specs.States.{IsState, State}
 use Rattle.cm_plain.specs.Changes.{Change, after}
 use Rattle.cm_plain.specs.Steps.{Plans}
 use Rattle.cm_plain.specs.Slots.{slot_for}
-use Rattle.cm_plain.specs.Linked.{linked}
-use Rattle.cm_plain.specs.Torn.{BeginsAt, IsItsSlot, IsOthersSlot, IsPointedInChain, Torn}
-use Rattle.cm_plain.proofs.Telling.{In, in_from, in_to}
-use Rattle.cm_recover.specs.Occupied.{Occupied}
-use Rattle.cm_recover.specs.Verdicts.{verdict}
+use Rattle.cm_plain.specs.FoundChains.{chain_of}
+use Rattle.cm_plain.specs.Torn.{BeginsAt, IsChangeSlot, IsOtherSlot, IsPointedInChain, Torn}
+use Rattle.cm_plain.proofs.OneState.{In, in_from, in_to}
+use Rattle.cm_recover.specs.Occupied.{OccupiedSlot}
+use Rattle.cm_recover.specs.Judgements.{judgement}
 use Rattle.cm_recover.specs.Laws.{IsTorn}
 use Rattle.cm_recover.proofs.InPlace.{in_place_judged}
 use Rattle.cm_recover.proofs.Keeping.{IsJudged}
 use Rattle.cm_recover.proofs.Planned.{IsAtEntry, begins_or_not, new_at, old_at}
 use Rattle.cm_recover.proofs.Roles.{IsOf, its_new, its_old}
-use Rattle.cm_recover.proofs.Together.{placed_in}
+use Rattle.cm_recover.proofs.StatePairs.{placed_in}
 use Rattle.cm_recover.proofs.Walking.{StandsIn}
 
 -- a change in place, or another one
@@ -30,22 +30,22 @@ by_kind kind.Relocate = inr (λ e. cc e)
 by_kind kind.Remove = inr (λ e. cc e)
 
 -- a slot that points to an entry of a chained tier
-points_to : (geo : Geo) (words : List ℕ) (at : Occupied) (placed : Placed) → StandsIn geo words at → placed.place ≡ at.place → at.slot ≡ slot_for geo placed.key placed.chunk → IsPointedInChain geo words placed
+points_to : (geo : Geo) (words : List ℕ) (at : OccupiedSlot) (placed : Placed) → StandsIn geo words at → placed.place ≡ at.place → at.slot ≡ slot_for geo placed.key placed.chunk → IsPointedInChain geo words placed
 points_to geo words at placed stands place_is slot_is = record {
-  chained = in_to (linked geo words).places placed.place (subst (λ (p : ℕ). In p (linked geo words).places) (sym place_is) stands.chained);
+  chained = in_to (chain_of geo words).places placed.place (subst (λ (p : ℕ). In p (chain_of geo words).places) (sym place_is) stands.chained);
   pointed = (at.number, record { inside = stands.inside; slot_is = rw place_is (stands.slot_is ∙ ap Some slot_is) });
 }
 
 -- a slot of an entry of another key
-pub others_judged : (geo : Geo) (segment : ℕ) (words : List ℕ) (state : State) (change : Change) (at : Occupied) → IsState geo segment state → Torn geo words state change → StandsIn geo words at
-    → (of : IsOthersSlot geo state change at.place at.slot) → IsOf geo segment words state change at of.placed
+pub others_judged : (geo : Geo) (segment : ℕ) (words : List ℕ) (state : State) (change : Change) (at : OccupiedSlot) → IsState geo segment state → Torn geo words state change → StandsIn geo words at
+    → (of : IsOtherSlot geo state change at.place at.slot) → IsOf geo segment words state change at of.placed
 others_judged geo segment words state change at is torn stands of =
     let i : In of.placed state.entries = in_from state.entries of.placed of.is_other.there in
     let placed = placed_in geo segment state of.placed is i in
     record {
       may = record {
         here = placed.here;
-        chained = subst (λ (p : ℕ). In p (linked geo words).places) (sym of.place_is) stands.chained;
+        chained = subst (λ (p : ℕ). In p (chain_of geo words).places) (sym of.place_is) stands.chained;
         run = placed.run;
         role = inl (record { is_in = i; other = of.is_other.other });
       };
@@ -55,13 +55,13 @@ others_judged geo segment words state change at is torn stands of =
     }
 
 -- a slot is of an entry of the change's key
-pub record ReadsIts (geo : Geo) (segment : ℕ) (words : List ℕ) (state : State) (change : Change) (at : Occupied) : Type 0 where
+pub record ReadsIts (geo : Geo) (segment : ℕ) (words : List ℕ) (state : State) (change : Change) (at : OccupiedSlot) : Type 0 where
   pub placed : Placed
   pub key_is : placed.key ≡ change.key
   pub of : IsOf geo segment words state change at placed
 
 -- one of the old entry, where the change isn't in place
-pub old_judged : (geo : Geo) (segment : ℕ) (words : List ℕ) (state : State) (change : Change) (at : Occupied) (chunk : ℕ) → IsState geo segment state → Torn geo words state change
+pub old_judged : (geo : Geo) (segment : ℕ) (words : List ℕ) (state : State) (change : Change) (at : OccupiedSlot) (chunk : ℕ) → IsState geo segment state → Torn geo words state change
     → (change.kind ≢ kind.InPlace) → StandsIn geo words at → IsAtEntry state.entries change.key at.place chunk → at.slot ≡ slot_for geo change.key chunk
     → ReadsIts geo segment words state change at
 old_judged geo segment words state change at chunk is torn apart stands old slot_is =
@@ -73,7 +73,7 @@ old_judged geo segment words state change at chunk is torn apart stands old slot
       of = record {
         may = record {
           here = placed.here;
-          chained = subst (λ (p : ℕ). In p (linked geo words).places) (sym old.place_is) stands.chained;
+          chained = subst (λ (p : ℕ). In p (chain_of geo words).places) (sym old.place_is) stands.chained;
           run = placed.run;
           role = inr (its_old geo segment state change old.placed is old.is_in old.key_is);
         };
@@ -84,7 +84,7 @@ old_judged geo segment words state change at chunk is torn apart stands old slot
     }
 
 -- and one of the new entry, apart from the old one
-pub new_judged : (geo : Geo) (segment : ℕ) (words : List ℕ) (state : State) (op : Op) (change : Change) (at : Occupied) (chunk : ℕ) → IsState geo segment state → Plans geo segment state op change
+pub new_judged : (geo : Geo) (segment : ℕ) (words : List ℕ) (state : State) (op : Op) (change : Change) (at : OccupiedSlot) (chunk : ℕ) → IsState geo segment state → Plans geo segment state op change
     → Torn geo words state change → (change.kind ≢ kind.InPlace) → StandsIn geo words at → (BeginsAt change.old_run at.place chunk → ⊥) → IsAtEntry (after geo change state).entries change.key at.place chunk
     → at.slot ≡ slot_for geo change.key chunk → ReadsIts geo segment words state change at
 new_judged geo segment words state op change at chunk is plans torn apart stands not_old new slot_is =
@@ -96,7 +96,7 @@ new_judged geo segment words state op change at chunk is plans torn apart stands
       of = record {
         may = record {
           here = placed.here;
-          chained = subst (λ (p : ℕ). In p (linked geo words).places) (sym new.place_is) stands.chained;
+          chained = subst (λ (p : ℕ). In p (chain_of geo words).places) (sym new.place_is) stands.chained;
           run = placed.run;
           role = inr (its_new geo segment state op change new.placed is plans new.is_in new.key_is);
         };
@@ -109,8 +109,8 @@ new_judged geo segment words state op change at chunk is plans torn apart stands
     }
 
 -- a slot of the change's key, where the change isn't in place
-apart_judged : (geo : Geo) (segment : ℕ) (words : List ℕ) (state : State) (op : Op) (change : Change) (at : Occupied) → IsState geo segment state → Plans geo segment state op change
-    → Torn geo words state change → (change.kind ≢ kind.InPlace) → StandsIn geo words at → IsItsSlot geo change at.place at.slot → ReadsIts geo segment words state change at
+apart_judged : (geo : Geo) (segment : ℕ) (words : List ℕ) (state : State) (op : Op) (change : Change) (at : OccupiedSlot) → IsState geo segment state → Plans geo segment state op change
+    → Torn geo words state change → (change.kind ≢ kind.InPlace) → StandsIn geo words at → IsChangeSlot geo change at.place at.slot → ReadsIts geo segment words state change at
 apart_judged geo segment words state op change at is plans torn apart stands its = elim (begins_or_not change.old_run at.place its.chunk) [
   | inl old ↦ old_judged geo segment words state change at its.chunk is torn apart stands (old_at geo segment state op change at.place its.chunk plans old) its.slot_is
   | inr not_old ↦ elim its.begins [
@@ -120,13 +120,13 @@ apart_judged geo segment words state op change at is plans torn apart stands its
 ]
 
 -- each slot that isn't empty is judged
-pub judged : (geo : Geo) (segment : ℕ) (words : List ℕ) (state : State) (op : Op) (change : Change) (at : Occupied) → IsTorn geo segment words state op change → StandsIn geo words at
-    → IsJudged (verdict geo segment words (linked geo words).places) (IsOf geo segment words state change) at
+pub judged : (geo : Geo) (segment : ℕ) (words : List ℕ) (state : State) (op : Op) (change : Change) (at : OccupiedSlot) → IsTorn geo segment words state op change → StandsIn geo words at
+    → IsJudged (judgement geo segment words (chain_of geo words).places) (IsOf geo segment words state change) at
 judged geo segment words state op change at is_torn stands =
-    elim (is_torn.torn.slots at.place at.number at.slot (in_to (linked geo words).places at.place stands.chained) stands.inside stands.slot_is) [
+    elim (is_torn.torn.slots at.place at.number at.slot (in_to (chain_of geo words).places at.place stands.chained) stands.inside stands.slot_is) [
       | inl others ↦ inl (others.placed, others_judged geo segment words state change at is_torn.plans.is_state is_torn.torn stands others)
       | inr its ↦ elim (by_kind change.kind) [
-        | inl in_place ↦ in_place_judged geo segment words state op change at its.chunk is_torn.many is_torn.plans.is_state is_torn.plans is_torn.torn in_place stands its.begins its.slot_is
+        | inl in_place ↦ in_place_judged geo segment words state op change at its.chunk is_torn.length_is is_torn.plans.is_state is_torn.plans is_torn.torn in_place stands its.begins its.slot_is
         | inr apart ↦ (let reads = apart_judged geo segment words state op change at is_torn.plans.is_state is_torn.plans is_torn.torn apart stands its in inl (reads.placed, reads.of))
       ]
     ]

@@ -18,23 +18,23 @@ use Rattle.cm_plain.specs.declared.room.Spot.{Spot}
 use Rattle.cm_plain.specs.declared.room.Room.TheVariants.{Elsewhere}
 use Rattle.cm_plain.specs.States.{IsState, one_tier}
 use Rattle.cm_plain.specs.Rooms.{first_fit, is_free}
-use Rattle.cm_plain.specs.Changes.{Change, entry_at, placing, planned}
+use Rattle.cm_plain.specs.Changes.{Change, entry_at, placing_change, planned_change}
 use Rattle.cm_plain.specs.Steps.{Plans}
-use Rattle.cm_plain.specs.Torn.{IsItsSlot, Torn}
+use Rattle.cm_plain.specs.Torn.{IsChangeSlot, Torn}
 use Rattle.cm_plain.specs.Readings.{Stands}
-use Rattle.cm_plain.proofs.Telling.{In, in_from}
+use Rattle.cm_plain.proofs.OneState.{In, in_from}
 use Rattle.cm_plain.specs.Slots.{IsPointed, Slot, slot_for, slot_in, word_at}
-use Rattle.cm_plain.specs.Linked.{linked, linked_from}
-use Rattle.cm_plain.specs.Lawful.{EndsHead, HasBit, LawfulApart, Resting, Tells, TierTells}
+use Rattle.cm_plain.specs.FoundChains.{chain_of, chain_from}
+use Rattle.cm_plain.specs.Lawful.{EndsHead, HasBit, LawfulApart, Resting, Represents, TierRepresents}
 use Rattle.cm_plain.proofs.Placing.{placed_state}
-use Rattle.cm_plain.proofs.Resting.{resting_torn}
-use Rattle.cm_plain.proofs.Standing.{resting_many}
+use Rattle.cm_plain.proofs.RestingTorn.{resting_torn}
+use Rattle.cm_plain.proofs.OutsideHead.{resting_many}
 use Rattle.cm_recover.specs.Premises.{FirstWrittenIsTorn, IsFirstWritten, RestingIsTorn, ZerosAreTorn, zeros}
 
 -- words that rest are as many as a segment's, and torn
 pub resting_is_torn : (geo : Geo) → RestingIsTorn geo
 resting_is_torn geo segment words state op change rests plans = record {
-  many = resting_many geo segment words state rests;
+  length_is = resting_many geo segment words state rests;
   plans = plans;
   torn = resting_torn geo segment words state op change rests plans;
 }
@@ -55,15 +55,15 @@ unfolding slot_in
 no_slot geo segment place number = rw (all_zero (words_in_segment geo) (slot_at geo place number)) refl
 
 -- the chain has the first tier alone
-alone_from : (links : ℕ) (geo : Geo) (words : List ℕ) → word_at words (tier_at geo 0) ≡ 0 → linked_from links geo words (0 ∷ []) 0 ≡ record { places = 0 ∷ []; cut = false }
+alone_from : (links : ℕ) (geo : Geo) (words : List ℕ) → word_at words (tier_at geo 0) ≡ 0 → chain_from links geo words (0 ∷ []) 0 ≡ record { places = 0 ∷ []; cut = false }
 alone_from zero geo words none = refl
 alone_from (suc links) geo words none = rw none refl
 
-alone_is : (geo : Geo) (words : List ℕ) → word_at words (tier_at geo 0) ≡ 0 → linked geo words ≡ record { places = 0 ∷ []; cut = false }
-unfolding linked
+alone_is : (geo : Geo) (words : List ℕ) → word_at words (tier_at geo 0) ≡ 0 → chain_of geo words ≡ record { places = 0 ∷ []; cut = false }
+unfolding chain_of
 alone_is geo words none = alone_from geo.tiers geo words none
 
-alone : (geo : Geo) (segment : ℕ) → linked geo (zeros geo segment) ≡ record { places = 0 ∷ []; cut = false }
+alone : (geo : Geo) (segment : ℕ) → chain_of geo (zeros geo segment) ≡ record { places = 0 ∷ []; cut = false }
 alone geo segment = alone_is geo (zeros geo segment) (all_zero (words_in_segment geo) (tier_at geo 0))
 
 no_bit : (geo : Geo) (segment place chunk : ℕ) → HasBit geo (zeros geo segment) place chunk → ⊥
@@ -72,8 +72,8 @@ no_bit geo segment place chunk set = set (rw (all_zero (words_in_segment geo) (b
     none_set : (mask : ℕ) → bit_and 0 mask ≡ 0
     none_set mask = grind (arith, common_steps)
 
-tier_tells : (geo : Geo) (segment place : ℕ) → TierTells geo (zeros geo segment) one_tier place
-tier_tells geo segment place = record {
+tier_represents : (geo : Geo) (segment place : ℕ) → TierRepresents geo (zeros geo segment) one_tier place
+tier_represents geo segment place = record {
   slots = λ number slot inside e. absurd (clash (sym (no_slot geo segment place number) ∙ e));
   reached = λ number slot inside e. absurd (clash (sym (no_slot geo segment place number) ∙ e));
   bits = λ chunk inside. (λ set. absurd (no_bit geo segment place chunk set), λ taken. absurd (none_in taken.at.there));
@@ -88,7 +88,7 @@ one_is : (geo : Geo) (segment : ℕ) → IsState geo segment one_tier
 one_is geo segment = record {
   chain = record {
     first = refl;
-    few = omega (arith, tiers_range geo);
+    within_limit = omega (arith, tiers_range geo);
     inside = All-from_recursion (λ place. place < geo.tiers) (0 ∷ []) (omega (arith, tiers_range geo), tt);
     apart = λ i j d before below. absurd (omega arith);
   };
@@ -97,12 +97,12 @@ one_is geo segment = record {
   keys = λ i j d before below. absurd (omega arith);
 }
 
-zeros_tell : (geo : Geo) (segment : ℕ) → Tells geo segment (zeros geo segment) one_tier
+zeros_tell : (geo : Geo) (segment : ℕ) → Represents geo segment (zeros geo segment) one_tier
 zeros_tell geo segment = record {
   is_state = one_is geo segment;
   whole = rw (alone geo segment) refl;
   chain = rw (alone geo segment) refl;
-  tiers = All-from_recursion (TierTells geo (zeros geo segment) one_tier) (0 ∷ []) (tier_tells geo segment 0, tt);
+  tiers = All-from_recursion (TierRepresents geo (zeros geo segment) one_tier) (0 ∷ []) (tier_represents geo segment 0, tt);
   stand = λ placed there. absurd (none_in there);
   pointed = λ placed there. absurd (none_in there);
   count = all_zero (words_in_segment geo) 2;
@@ -111,7 +111,7 @@ zeros_tell geo segment = record {
 
 zeros_stand : (geo : Geo) (segment : ℕ) → LawfulApart geo segment (zeros geo segment) one_tier
 zeros_stand geo segment = record {
-  many = length-replicate (words_in_segment geo) 0;
+  length_is = length-replicate (words_in_segment geo) 0;
   fourth = all_zero (words_in_segment geo) 3;
   heads = All-from_recursion (EndsHead geo (zeros geo segment)) (0 ∷ [])
       (record { third = all_zero (words_in_segment geo) (tier_at geo 0 + 2); fourth = all_zero (words_in_segment geo) (tier_at geo 0 + 3) }, tt);
@@ -124,19 +124,19 @@ zeros_rest geo segment = zeros_stand geo segment
 
 -- a first number that passes is found
 finds_first : (test : ℕ → Bool) (n : ℕ) → 1 ≤ n → test 0 ≡ true → find test (range_with_len 0 n) ≡ Some 0
-finds_first test zero some passes = absurd (omega arith)
-finds_first test (suc n) some passes = rw passes refl
+finds_first test zero nonzero passes = absurd (omega arith)
+finds_first test (suc n) nonzero passes = rw passes refl
 
 -- what fits has room at the first chunk of an empty tier
 first_room : (geo : Geo) (chunks : ℕ) → chunks ≤ 64 → first_fit geo one_tier chunks ≡ Some (record { place = 0; chunk = 0 })
-first_room geo chunks few =
+first_room geo chunks within_limit =
     let inside : nat_le (0 + chunks) geo.chunks ≡ true = grind (arith, nat_tests, chunks_range geo) in
     let free : is_free geo [] 0 0 chunks ≡ true = rw inside refl in
     rw (finds_first (λ chunk. is_free geo [] 0 chunk chunks) geo.chunks (omega (arith, chunks_range geo)) free) refl
 
 -- so a put that fits is planned
 put_plans : (geo : Geo) (key value : List ℕ) → Fits geo (length key) (length value)
-    → Plans geo (segment_of_key geo key) one_tier (Put key value) (planned geo one_tier (Put key value) key)
+    → Plans geo (segment_of_key geo key) one_tier (Put key value) (planned_change geo one_tier (Put key value) key)
 put_plans geo key value fits =
     let fit = first_room geo (need geo (length key) (length value)) fits.few_chunks in
     let spot : Spot = record { place = 0; chunk = 0 } in
@@ -152,9 +152,9 @@ put_plans geo key value fits =
 
 -- the put of an entry into one empty tier
 abbrev first_put : Geo → List ℕ → List ℕ → Change
-first_put geo key value = placing geo (Put key value) key value None (Elsewhere (record { place = 0; chunk = 0 })) (need geo (length key) (length value))
+first_put geo key value = placing_change geo (Put key value) key value None (Elsewhere (record { place = 0; chunk = 0 })) (need geo (length key) (length value))
 
-first_is : (geo : Geo) (key value : List ℕ) → Fits geo (length key) (length value) → planned geo one_tier (Put key value) key ≡ first_put geo key value
+first_is : (geo : Geo) (key value : List ℕ) → Fits geo (length key) (length value) → planned_change geo one_tier (Put key value) key ≡ first_put geo key value
 first_is geo key value fits = let fit = first_room geo (need geo (length key) (length value)) fits.few_chunks in rw fit refl
 
 first_torn : (geo : Geo) (words key value : List ℕ) → IsFirstWritten geo words key value → Torn geo words one_tier (first_put geo key value)
@@ -176,7 +176,7 @@ first_torn geo words key value is =
     first_of_one : (place : ℕ) → Contains (0 ∷ []) place → place ≡ 0
     first_of_one place c = elim (in_from (0 ∷ []) place c) [ inl e ↦ e | inr i ↦ absurd i ]
 
-    its : (place number : ℕ) (slot : Slot) → Contains (0 ∷ []) place → number < 2 * geo.chunks → slot_in geo words place number ≡ Some slot → IsItsSlot geo (first_put geo key value) place slot
+    its : (place number : ℕ) (slot : Slot) → Contains (0 ∷ []) place → number < 2 * geo.chunks → slot_in geo words place number ≡ Some slot → IsChangeSlot geo (first_put geo key value) place slot
     its place number slot chained inside e =
         let first = first_of_one place chained in
         record { chunk = 0; begins = inr (sym first, refl); slot_is = (is.slots number slot inside (rw first at e)).slot_is }
@@ -190,16 +190,16 @@ first_torn geo words key value is =
 -- words into which one entry is written are torn for its put
 pub first_written_is_torn : (geo : Geo) → FirstWrittenIsTorn geo
 first_written_is_torn geo words key value fits is = record {
-  many = is.many;
+  length_is = is.length_is;
   plans = put_plans geo key value fits;
   torn = subst (Torn geo words one_tier) (sym (first_is geo key value fits)) (first_torn geo words key value is);
 }
 
 -- each segment has its first tier alone
-no_extra : (geo : Geo) (n from : ℕ) → sum_by (λ segment. length (linked geo (zeros geo segment)).places - 1) (range_with_len from n) ≡ 0
+no_extra : (geo : Geo) (n from : ℕ) → sum_by (λ segment. length (chain_of geo (zeros geo segment)).places - 1) (range_with_len from n) ≡ 0
 no_extra geo zero from = refl
 no_extra geo (suc n) from =
-    let extra : ℕ → ℕ = λ segment. length (linked geo (zeros geo segment)).places - 1 in
+    let extra : ℕ → ℕ = λ segment. length (chain_of geo (zeros geo segment)).places - 1 in
     let none : extra from ≡ 0 = rw (alone geo from) refl in
     let rest : sum_by extra (range_with_len (from + 1) n) ≡ 0 = no_extra geo n (from + 1) in
     sum_by-cons extra from (range_with_len (from + 1) n) ∙ both (extra from) (sum_by extra (range_with_len (from + 1) n)) none rest
@@ -213,6 +213,6 @@ zeros_are_torn geo = record {
   allowance = rw (no_extra geo geo.segments 0) (omega arith);
   stand = zeros_stand geo;
   torn = λ key value fits.
-      resting_is_torn geo (segment_of_key geo key) (zeros geo (segment_of_key geo key)) one_tier (Put key value) (planned geo one_tier (Put key value) key)
+      resting_is_torn geo (segment_of_key geo key) (zeros geo (segment_of_key geo key)) one_tier (Put key value) (planned_change geo one_tier (Put key value) key)
       (zeros_rest geo (segment_of_key geo key)) (put_plans geo key value fits);
 }

@@ -6,17 +6,17 @@ use Rattle.cm_plain.specs.declared.op.Op.{Op}
 use Rattle.cm_plain.specs.States.{IsState, State, value_of}
 use Rattle.cm_plain.specs.Changes.{Change}
 use Rattle.cm_plain.specs.Steps.{Plans}
-use Rattle.cm_plain.specs.Linked.{KeepsAllowance}
+use Rattle.cm_plain.specs.FoundChains.{KeepsAllowance}
 use Rattle.cm_plain.specs.Lawful.{LawfulApart}
 use Rattle.cm_plain.specs.Torn.{Torn}
 use Rattle.cm_recover.specs.declared.cause.Cause.{Cause}
 use Rattle.cm_recover.specs.declared.cause.Cause.TheVariants as cause
-use Rattle.cm_recover.specs.Kept.{kept_in, kept_state}
+use Rattle.cm_recover.specs.KeptSlots.{kept_in, kept_state}
 use Rattle.cm_recover.specs.Outcomes.{Outcome}
 
 -- the words of a segment, as many as it has, are torn for a state and a change that is planned for it
 pub record IsTorn (geo : Geo) (segment : ℕ) (words : List ℕ) (state : State) (op : Op) (change : Change) : Type 0 where
-  pub many : length words ≡ words_in_segment geo
+  pub length_is : length words ≡ words_in_segment geo
   pub plans : Plans geo segment state op change
   pub torn : Torn geo words state change
 

@@ -1,8 +1,8 @@
 -- The definitions that contracts cite.
 pub mod Occupied
 pub mod Allowed
-pub mod Verdicts
-pub mod Kept
+pub mod Judgements
+pub mod KeptSlots
 pub mod Recovered
 pub mod Outcomes
 pub mod Laws

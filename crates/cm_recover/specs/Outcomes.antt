@@ -4,11 +4,11 @@ use Rattle.cm_geo.specs.declared.geo.Geo.{Geo}
 use Rattle.cm_plain.specs.declared.plan.PlanKind.TheVariants as kind
 use Rattle.cm_plain.specs.States.{State, value_of}
 use Rattle.cm_plain.specs.Changes.{Change, after}
-use Rattle.cm_plain.specs.Readings.{checksum, filled, head_of}
+use Rattle.cm_plain.specs.Readings.{checksum, padded, head_of}
 
 -- the checksum of a key's entry with this value
-abbrev pub sum_of : List ℕ → List ℕ → ℕ
-sum_of key value = checksum (head_of key value) (filled key) (filled value)
+abbrev pub entry_checksum : List ℕ → List ℕ → ℕ
+entry_checksum key value = checksum (head_of key value) (padded key) (padded value)
 
 -- A value that is none of the two, while one is replaced by the other in place: it is as long as one of them, and its checksum is by chance
 -- that of the old one.
@@ -21,16 +21,16 @@ pub record Chance (geo : Geo) (state : State) (change : Change) (value : List �
   pub not_old : value ≢ old
   pub not_new : value ≢ new
   pub as_long : (length value ≡ length old) ⊎ (length value ≡ length new)
-  pub sum_same : sum_of change.key value ≡ sum_of change.key old
+  pub checksum_same : entry_checksum change.key value ≡ entry_checksum change.key old
 
 -- what the change's key may have: what it had, or what the change gives it; nothing, or a value by chance, where it was replaced in place
-abbrev pub IsItsOutcome : Geo → State → Change → Option (List ℕ) → Type 0
-IsItsOutcome geo state change None =
+abbrev pub IsChangeOutcome : Geo → State → Change → Option (List ℕ) → Type 0
+IsChangeOutcome geo state change None =
     ((value_of change.key state ≡ None) ⊎ (value_of change.key (after geo change state) ≡ None)) ⊎ (change.kind ≡ kind.InPlace)
-IsItsOutcome geo state change (Some value) =
+IsChangeOutcome geo state change (Some value) =
     ((value_of change.key state ≡ Some value) ⊎ (value_of change.key (after geo change state) ≡ Some value)) ⊎ Chance geo state change value
 
 -- values of keys that may stand after a change of a state was broken off: each other key has what it had
 pub record Outcome (geo : Geo) (state : State) (change : Change) (contents : List ℕ → Option (List ℕ)) : Type 0 where
   pub others : (key : List ℕ) → key ≢ change.key → contents key ≡ value_of key state
-  pub its : IsItsOutcome geo state change (contents change.key)
+  pub its : IsChangeOutcome geo state change (contents change.key)

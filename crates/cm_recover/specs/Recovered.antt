@@ -2,7 +2,7 @@
 use Rattle.std.specs.Prelude.{ℕ, ◌<◌, List}
 use Rattle.cm_geo.specs.declared.geo.Geo.{Geo}
 use Rattle.cm_plain.specs.Lawful.{IsSegmentWords, Lawful}
-use Rattle.cm_recover.specs.Kept.{kept_state}
+use Rattle.cm_recover.specs.KeptSlots.{kept_state}
 
 -- the new words of each segment stand, after no change, for the state that is kept of the old ones
 pub record Recovered (geo : Geo) (old new : ℕ → List ℕ) : Type 0 where

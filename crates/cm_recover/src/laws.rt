@@ -2,7 +2,7 @@
 
 ghost use Rattle.std.specs.Prelude.{ℕ, List};
 ghost use Rattle.cm_geo.specs.declared.geo.Geo.{Geo};
-ghost use Rattle.cm_plain.specs.Linked.{KeepsAllowance};
+ghost use Rattle.cm_plain.specs.FoundChains.{KeepsAllowance};
 ghost use Rattle.cm_recover.specs.Laws.{GivesStates, LawfulStays, StaysRecovered, TornEnds};
 ghost use Rattle.cm_recover.specs.Premises.{FirstWrittenIsTorn, RestingIsTorn, ZerosAreTorn};
 ghost use Rattle.cm_recover.specs.Recovered.{Recovered};

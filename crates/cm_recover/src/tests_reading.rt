@@ -182,8 +182,12 @@ impl Segment {
     }
 
     /// Whether so many words from an address on are 0.
-    fn is_zero(&self, from: u32, many: u32) -> bool {
-        let mut words = self.words.iter().skip(from as usize).take(many as usize);
+    fn is_zero(&self, from: u32, length_is: u32) -> bool {
+        let mut words = self
+            .words
+            .iter()
+            .skip(from as usize)
+            .take(length_is as usize);
         words.all(|word| *word == 0)
     }
 

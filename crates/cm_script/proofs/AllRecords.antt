@@ -118,13 +118,13 @@ all-records (suc n) s (c ∷ rest) (row ∷ rows) s2 ys q lt r e =
     rw (r.1, r.2, more) refl
 
 -- the records that were reached are not more than there are
-pub reached-few : (n : ℕ) (s : State) (xs : List ℕ) (rows : List (List (List ℕ))) (s2 : State) (ys : List ℕ) → ends_at_end s ≡ false → length xs < n
+pub reached-within_limit : (n : ℕ) (s : State) (xs : List ℕ) (rows : List (List (List ℕ))) (s2 : State) (ys : List ℕ) → ends_at_end s ≡ false → length xs < n
     → Reached default_config s xs rows s2 ys → length rows ≤ length (records_from default_config n s xs)
 unfolding Reached records_from
-reached-few zero s xs rows s2 ys q lt r = absurd (omega arith)
-reached-few (suc n) s xs [] s2 ys q lt r = omega arith
-reached-few (suc n) s [] (row ∷ rows) s2 ys q lt r = absurd (nothing-left s r.0 q r.1)
-reached-few (suc n) s (c ∷ rest) (row ∷ rows) s2 ys q lt r =
+reached-within_limit zero s xs rows s2 ys q lt r = absurd (omega arith)
+reached-within_limit (suc n) s xs [] s2 ys q lt r = omega arith
+reached-within_limit (suc n) s [] (row ∷ rows) s2 ys q lt r = absurd (nothing-left s r.0 q r.1)
+reached-within_limit (suc n) s (c ∷ rest) (row ∷ rows) s2 ys q lt r =
     let less = next-less s c rest r.0 r.1 in
-    let more = reached-few n r.0.1 r.0.2 rows s2 ys less.quiet (omega arith) r.3 in
+    let more = reached-within_limit n r.0.1 r.0.2 rows s2 ys less.quiet (omega arith) r.3 in
     rw r.1 (omega arith)

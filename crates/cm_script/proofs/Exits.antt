@@ -17,10 +17,10 @@ at-exit result P passed here =
 
 -- no operation has more than three fields behind it
 pub no_op : (geo : Geo) (lists : ℕ) (word : Verb) (first : List ℕ) (later : List (List ℕ)) → 3 ≤ length later → op_of geo lists word (first ∷ later) ≡ Err cause.Argument
-no_op geo lists word first [] many = absurd (omega arith)
-no_op geo lists word first (second ∷ []) many = absurd (omega arith)
-no_op geo lists word first (second ∷ third ∷ []) many = absurd (omega arith)
-no_op geo lists word first (second ∷ third ∷ fourth ∷ later) many = elim word as (λ any. op_of geo lists any (first ∷ second ∷ third ∷ fourth ∷ later) ≡ Err cause.Argument) [
+no_op geo lists word first [] length_is = absurd (omega arith)
+no_op geo lists word first (second ∷ []) length_is = absurd (omega arith)
+no_op geo lists word first (second ∷ third ∷ []) length_is = absurd (omega arith)
+no_op geo lists word first (second ∷ third ∷ fourth ∷ later) length_is = elim word as (λ any. op_of geo lists any (first ∷ second ∷ third ∷ fourth ∷ later) ≡ Err cause.Argument) [
   | verb.Put ↦ refl
   | verb.Get ↦ refl
   | verb.PutIfAbsent ↦ refl

@@ -5,4 +5,4 @@ pub mod Exits
 pub mod Lines
 pub mod Mapped
 pub mod RowTexts
-pub mod Kept
+pub mod LimitsKept

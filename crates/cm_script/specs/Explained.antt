@@ -46,7 +46,7 @@ is_swept _ = false
 
 -- the answers to a sweep: parts from 1 on, and all but the last swept a key
 pub record AnswersSweep (geo : Geo) (asked : Numbered) (receipts : List Receipt) : Type 0 where
-  pub some : 0 < length receipts
+  pub nonempty : 0 < length receipts
   pub each : (i : ℕ) (d : Receipt) → i < length receipts → IsOf geo asked (i + 1) (slice_index_or receipts i d)
   pub swept : (i : ℕ) (d : Receipt) → i + 1 < length receipts → is_swept (slice_index_or receipts i d).reply ≡ true
   pub ended : (d : Receipt) → is_swept (slice_index_or receipts (length receipts - 1) d).reply ≡ false

@@ -45,7 +45,7 @@ impl Script {
     /// How many records there are.
     pub fn len(&self) -> u32
         ensures value { result ≡ length self.now }
-        ensures few { result ≤ 65536 }
+        ensures within_limit { result ≤ 65536 }
     {
         self.lines.len() as u32
     }

@@ -101,9 +101,9 @@ fn lists_with(lists: u32, line: &Line) -> u32
 fn lines_of(alloc: Global, geo: &Geo, rows: &[ByteRecord]) -> Result<Vec<Line>, ScriptStop>
     requires { length rows.now ≤ 65536 }
     ensures ok { IfOk result (λ lines. lines_from geo.now 1 0 (map fields_of rows.now) ≡ Ok lines.items) }
-    ensures few { IfOk result (λ lines. vec_len lines ≤ 65536) }
+    ensures within_limit { IfOk result (λ lines. vec_len lines ≤ 65536) }
     ensures refused { IfErr result (λ stop. (line : ℕ) (cause : LineCause) → stop ≡ ScriptStop.Refused line cause → lines_from geo.now 1 0 (map fields_of rows.now) ≡ Err (refused line cause)) }
-    ensures short { IfErr result (λ stop. stop ≢ ScriptStop.TooLong) }
+    ensures not_too_long { IfErr result (λ stop. stop ≢ ScriptStop.TooLong) }
 {
     let mut lines = Vec::new(alloc);
     let mut number = 1;

@@ -21,7 +21,7 @@ pub(crate) enum RowsStop {
 // that is one too many.
 pub(crate) fn read_rows(alloc: Global, text: &[u8]) -> Result<Vec<ByteRecord>, RowsStop>
     ensures all { IfOk result (λ rows. map fields_of rows.items ≡ records_of text.now) }
-    ensures few { IfOk result (λ rows. vec_len rows ≤ 65536) }
+    ensures within_limit { IfOk result (λ rows. vec_len rows ≤ 65536) }
     ensures too_long { IfErr result (λ stop. stop ≡ RowsStop.TooLong → 65536 < length (records_of text.now)) }
 {
     let reader = ReaderBuilder::new()

@@ -2,7 +2,7 @@
 use Rattle.std.proofs.Common.{ℕ, ◌<◌, arith}
 use Rattle.cm_geo.specs.declared.geo.Geo.{Geo}
 use Rattle.cm_geo.specs.Addresses.{tier_at}
-use Rattle.cm_geo.proofs.InOrder.{tier_behind_head}
+use Rattle.cm_geo.proofs.AddressOrder.{tier_behind_head}
 
 -- a link is neither the lock word nor the change number
 pub link_inner : (geo : Geo) (place : ℕ) → 1 < tier_at geo place

@@ -1,6 +1,6 @@
 -- The lemmas on links and chains.
 pub mod Inner
-pub mod Few
-pub mod Steps
+pub mod ChainLength
+pub mod ChainSteps
 pub mod Following
 pub mod Appending

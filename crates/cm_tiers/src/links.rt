@@ -5,9 +5,9 @@ ghost use Rattle.std.specs.List.{list_any};
 ghost use Rattle.cm_geo.specs.Addresses.{tier_at};
 ghost use Rattle.cm_plain.specs.Slots.{word_at};
 ghost use Rattle.cm_words.specs.Memory.{MemSeen, FitsNotes, MayStore};
-ghost use Rattle.cm_words.specs.Meters.{Goes, MakesEvent};
+ghost use Rattle.cm_words.specs.Meters.{ReportsDeath, MakesEvent};
 ghost use Rattle.cm_words.specs.Effects.{IsAsBefore, Reads, Writes};
-ghost use Rattle.cm_words.specs.declared.standing.Standing.TheVariants.{Closed, Writable};
+ghost use Rattle.cm_words.specs.declared.access.Access.TheVariants.{Closed, Writable};
 ghost use Rattle.cm_words.specs.declared.fuse.EventKind.TheVariants.{Load, Store};
 ghost use Rattle.cm_tiers.specs.Chains.{IsRead, IsLinked, LinksTo};
 
@@ -25,10 +25,10 @@ fn leads_nowhere(geo: &Geo, places: &[u32], link: u64) -> bool
 /// The chain from place 0 by the links, one load for each tier of it, whatever words stand there. It
 /// goes up to a link of 0, or up to the first one that leads nowhere, where it is cut.
 pub fn chain<M: Mem>(mem: &mut M, geo: &Geo) -> Result<Chain, Dead>
-    requires open { (M.seen mem.old).setting.standing ≢ Closed }
+    requires open { (M.seen mem.old).setting.access ≢ Closed }
     requires geo { (M.seen mem.old).setting.geo ≡ geo.now }
     ensures rest { M.same_rest mem.old mem.new }
-    ensures goes { Goes (M.seen mem.old).meter (M.seen mem.new).meter result }
+    ensures fuse { ReportsDeath (M.seen mem.old).meter (M.seen mem.new).meter result }
     ensures reads { Reads (M.seen mem.old) (M.seen mem.new) }
     ensures read { IfOk result (IsRead geo.now) }
     ensures linked { IfOk result (λ chain. (words : List ℕ) → FitsNotes (M.seen mem.new) words → IsLinked geo.now words chain) }
@@ -66,11 +66,11 @@ pub fn chain<M: Mem>(mem: &mut M, geo: &Geo) -> Result<Chain, Dead>
 /// The place to which a tier links, whatever word stands there. None where the link is 0, or leads to no
 /// place of the geometry.
 pub fn next<M: Mem>(mem: &mut M, geo: &Geo, place: u32) -> Result<Option<u32>, Dead>
-    requires open { (M.seen mem.old).setting.standing ≢ Closed }
+    requires open { (M.seen mem.old).setting.access ≢ Closed }
     requires geo { (M.seen mem.old).setting.geo ≡ geo.now }
     requires place { place < geo.now.tiers }
     ensures rest { M.same_rest mem.old mem.new }
-    ensures goes { Goes (M.seen mem.old).meter (M.seen mem.new).meter result }
+    ensures fuse { ReportsDeath (M.seen mem.old).meter (M.seen mem.new).meter result }
     ensures reads { Reads (M.seen mem.old) (M.seen mem.new) }
     ensures event { MakesEvent Load (M.seen mem.old).meter (M.seen mem.new).meter result }
     ensures linked { IfOk result (λ next. (words : List ℕ) → FitsNotes (M.seen mem.new) words → LinksTo geo.now (word_at words (tier_at geo.now place)) next) }
@@ -93,13 +93,13 @@ fn place_of(geo: &Geo, link: u64) -> Option<u32>
 /// Links a tier behind the chain's last one, by one store of the last one's link.
 #[tactic(auto, using(crate::proofs::Inner::link_inner))]
 pub fn link<M: Mem>(mem: &mut M, geo: &Geo, last: u32, place: u32) -> Result<(), Dead>
-    requires writable { (M.seen mem.old).setting.standing ≡ Writable }
+    requires writable { (M.seen mem.old).setting.access ≡ Writable }
     requires geo { (M.seen mem.old).setting.geo ≡ geo.now }
     requires last { last < geo.now.tiers }
     requires place { place < geo.now.tiers }
     requires allowed { MayStore (M.seen mem.old) (tier_at geo.now last) place }
     ensures rest { M.same_rest mem.old mem.new }
-    ensures goes { Goes (M.seen mem.old).meter (M.seen mem.new).meter result }
+    ensures fuse { ReportsDeath (M.seen mem.old).meter (M.seen mem.new).meter result }
     ensures event { MakesEvent Store (M.seen mem.old).meter (M.seen mem.new).meter result }
     ensures linked { OnOk result (Writes (M.seen mem.old) (M.seen mem.new) ((tier_at geo.now last, place) ∷ [])) }
     ensures dead { OnErr result (IsAsBefore (M.seen mem.old) (M.seen mem.new)) }

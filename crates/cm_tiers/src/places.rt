@@ -20,7 +20,7 @@ pub struct Chain {
 /// The lowest place of the geometry that is not in the chain. None exactly where the chain has all of
 /// them.
 pub fn lowest_unlinked(geo: &Geo, chain: &Chain) -> Option<u32>
-    requires few { chain.now.len ≤ geo.now.tiers }
+    requires within_limit { chain.now.len ≤ geo.now.tiers }
     requires inside { All (λ place. place < geo.now.tiers) (places_of chain.now) }
     requires apart { AllPairs (λ place other. place ≢ other) (places_of chain.now) }
     ensures none { result ≡ None ↔ chain.now.len ≡ geo.now.tiers }

@@ -1,8 +1,8 @@
-pub mod Counting
+pub mod MeterCounts
 pub mod Notes
-pub mod Fits
-pub mod Storing
-pub mod Places
-pub mod Plainly
-pub mod Telling
+pub mod FittingLists
+pub mod StoreLists
+pub mod MapPlaces
+pub mod PlainNotes
+pub mod OneMemoryState
 pub mod Trials

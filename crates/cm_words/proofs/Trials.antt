@@ -11,11 +11,11 @@ use Rattle.cm_plain.specs.declared.room.Room.TheVariants.{Elsewhere}
 use Rattle.cm_plain.specs.Steps.{Plans}
 use Rattle.cm_geo.specs.Addresses.{tier_at}
 use Rattle.cm_plain.specs.declared.placed.Placed.{Placed}
-use Rattle.cm_plain.specs.Linked.{Linked, linked, linked_from}
+use Rattle.cm_plain.specs.FoundChains.{FoundChain, chain_of, chain_from}
 use Rattle.cm_plain.specs.Lawful.{Resting}
-use Rattle.cm_geo.proofs.InOrder.{tier_behind_head, tier_head_in_range}
+use Rattle.cm_geo.proofs.AddressOrder.{tier_behind_head, tier_head_in_range}
 use Rattle.cm_plain.proofs.Placing.{placed_state}
-use Rattle.cm_plain.proofs.Standing.{resting_tells, torn_same}
+use Rattle.cm_plain.proofs.OutsideHead.{resting_represents, torn_same}
 use Rattle.cm_words.specs.Memory.{FitsNotes, HasEvenNumber, IsAllowed, IsDone, IsPlanHere, MemSeen, Setting, StaysTorn, origin}
 use Rattle.cm_geo.specs.Addresses.{words_in_map, words_in_segment}
 use Rattle.cm_words.specs.Maps.{MapWords, number_word, words_before}
@@ -25,8 +25,8 @@ use Rattle.std.proofs.lemmas.List.{length-replicate}
 use Rattle.std.proofs.lemmas.List.FromFn.{fill_by_all}
 use Rattle.cm_words.specs.Effects.{Begins, MayStoreAll, Writes, after_stores, Reads}
 use Rattle.cm_words.specs.Trials.{AreCut, AreNew, KeepsTorn, StoresUnder, first_put}
-use Rattle.cm_words.proofs.Places.{number_inside}
-use Rattle.cm_words.proofs.Plainly.{noted_inside}
+use Rattle.cm_words.proofs.MapPlaces.{number_inside}
+use Rattle.cm_words.proofs.PlainNotes.{noted_inside}
 
 allowed_by : (setting : Setting) (plan : Option Change) (change : Change) (o words : List ℕ) (at word : ℕ) → plan ≡ Some change → KeepsTorn setting.geo change at word → IsAllowed setting plan o words (slice_set words at word)
 allowed_by setting plan change o words at word e keeps guarded = subst (λ (p : Option Change). StaysTorn setting p o words (slice_set words at word)) (sym e) (λ state under. keeps words state under.torn)
@@ -45,12 +45,12 @@ zero_word zero k = refl
 zero_word (suc count) zero = refl
 zero_word (suc count) (suc k) = zero_word count k
 
-zero_link : (geo : Geo) (count links : ℕ) → linked_from links geo (replicate count 0) (0 ∷ []) 0 ≡ record { places = 0 ∷ []; cut = false }
+zero_link : (geo : Geo) (count links : ℕ) → chain_from links geo (replicate count 0) (0 ∷ []) 0 ≡ record { places = 0 ∷ []; cut = false }
 zero_link geo count zero = refl
 zero_link geo count (suc links) = simp (zero_word count (tier_at geo 0)) refl
 
-zeros_linked : (geo : Geo) (count : ℕ) → linked geo (replicate count 0) ≡ record { places = 0 ∷ []; cut = false }
-unfolding linked
+zeros_linked : (geo : Geo) (count : ℕ) → chain_of geo (replicate count 0) ≡ record { places = 0 ∷ []; cut = false }
+unfolding chain_of
 zeros_linked geo count = zero_link geo count geo.tiers
 
 no_length : {X : Type 0} (xs : List X) → length xs ≡ 0 → xs ≡ []
@@ -63,8 +63,8 @@ same_state c c' e e' p q = rw (p, q) refl
 -- zeros rest for one empty tier at most
 pub zeros_rest : (geo : Geo) (segment count : ℕ) (state : State) → Resting geo segment (replicate count 0) state → state ≡ one_tier
 zeros_rest geo segment count state rests =
-    let tells = resting_tells geo segment (replicate count 0) state rests in
-    same_state state.chain (0 ∷ []) state.entries [] (sym tells.chain ∙ ap (λ (l : Linked). l.places) (zeros_linked geo count)) (no_length state.entries (sym tells.count ∙ zero_word count 2))
+    let knows = resting_represents geo segment (replicate count 0) state rests in
+    same_state state.chain (0 ∷ []) state.entries [] (sym knows.chain ∙ ap (λ (l : FoundChain). l.places) (zeros_linked geo count)) (no_length state.entries (sym knows.count ∙ zero_word count 2))
 
 mod_one : (n : ℕ) → n % 1 ≡ 0
 mod_one n = omega arith
@@ -101,10 +101,10 @@ zeros_fit : (guarded : Bool) (map : MapWords) (fuse : FuseSeen) (words : List �
 zeros_fit guarded map fuse words new fits =
     let count = words_in_segment map.geo in
     let here : (k : ℕ) → k < count → get_or words k 0 ≡ 0 = λ k inside.
-    (let within : k < length words = rw fits.are.many inside in
+    (let within : k < length words = rw fits.are.length_is inside in
     let zero_is : get_or map.words (words_before map.geo 0 + k) 0 ≡ 0 = rw new.zero (zero_word (words_in_map map.geo) (words_before map.geo 0 + k)) in
     fits.present k _ within (noted_inside map.geo (words_before map.geo 0) k map.words map.words inside) ∙ zero_is) in
-    fill_by_all (λ k. 0) words count 0 fits.are.many here ∙ sym (fill_by_all (λ k. 0) (replicate count 0) count 0 (length-replicate count 0) (λ k inside. zero_word count k))
+    fill_by_all (λ k. 0) words count 0 fits.are.length_is here ∙ sym (fill_by_all (λ k. 0) (replicate count 0) count 0 (length-replicate count 0) (λ k inside. zero_word count k))
 
 -- their change number is even
 pub new_number : (guarded : Bool) (map : MapWords) (fuse : FuseSeen) → AreNew map → HasEvenNumber (new_plain guarded map 0 fuse)
@@ -113,7 +113,7 @@ new_number guarded map fuse new =
     record {
       noted = rw (noted_inside map.geo (words_before map.geo 0) 1 map.words map.words (number_inside map.geo)) refl;
       even = λ words fits. rw (number words fits) refl;
-      few = λ words fits. rw (number words fits) (omega arith);
+      not_last = λ words fits. rw (number words fits) (omega arith);
     }
 
 -- the first put is planned for new words
@@ -121,7 +121,7 @@ pub new_planned : (guarded : Bool) (map : MapWords) (fuse : FuseSeen) → AreNew
 new_planned guarded map fuse new words state fits rests =
     let zeros : Resting map.geo 0 (replicate (words_in_segment map.geo) 0) state = subst (λ (w : List ℕ). Resting map.geo 0 w state) (zeros_fit guarded map fuse words new fits) rests in
     let state_is : state ≡ one_tier = zeros_rest map.geo 0 (words_in_segment map.geo) state zeros in
-    let is : IsState map.geo 0 one_tier = subst (λ (s : State). IsState map.geo 0 s) state_is (resting_tells map.geo 0 words state rests).is_state in
+    let is : IsState map.geo 0 one_tier = subst (λ (s : State). IsState map.geo 0 s) state_is (resting_represents map.geo 0 words state rests).is_state in
     subst (λ (s : State). Plans map.geo 0 s first_put.op first_put) (sym state_is) (plans_first_put map.geo new.geo_is is)
 
 -- a segment has a head of four words
@@ -130,14 +130,14 @@ unfolding words_in_segment
 head_inside geo = omega arith
 
 -- words whose first link leads nowhere rest for no state
-cut_link : (links : ℕ) (geo : Geo) (words : List ℕ) → links ≡ 1 → geo.tiers ≡ 1 → get_or words (tier_at geo 0) 0 ≡ 9 → (linked_from links geo words (0 ∷ []) 0).cut ≡ true
+cut_link : (links : ℕ) (geo : Geo) (words : List ℕ) → links ≡ 1 → geo.tiers ≡ 1 → get_or words (tier_at geo 0) 0 ≡ 9 → (chain_from links geo words (0 ∷ []) 0).cut ≡ true
 cut_link links geo words one tiers link = rw (one, link, tiers) refl
 
 cut_rests : (geo : Geo) (segment : ℕ) (words : List ℕ) (state : State) → geo.tiers ≡ 1 → get_or words (tier_at geo 0) 0 ≡ 9 → Resting geo segment words state → ⊥
-unfolding linked
+unfolding chain_of
 cut_rests geo segment words state tiers link rests =
     let is_cut = cut_link geo.tiers geo words tiers tiers link in
-    let whole = (resting_tells geo segment words state rests).whole in
+    let whole = (resting_represents geo segment words state rests).whole in
     clash (sym is_cut ∙ whole)
   where
     clash : true ≡ false → ⊥
@@ -149,7 +149,7 @@ cut_fits guarded map fuse words are fits =
     let one : 0 < map.geo.tiers = omega (arith, are.geo_is.tiers_is) in
     let range = tier_head_in_range map.geo 0 0 one (omega arith) in
     let inside : tier_at map.geo 0 < words_in_segment map.geo = omega (arith, range) in
-    let within : tier_at map.geo 0 < length words = rw fits.are.many inside in
+    let within : tier_at map.geo 0 < length words = rw fits.are.length_is inside in
     fits.present (tier_at map.geo 0) _ within (noted_inside map.geo (words_before map.geo 0) (tier_at map.geo 0) map.words map.words inside) ∙ are.link
 
 -- any change is planned for them
@@ -165,12 +165,12 @@ cut_number old m guarded map fuse e are read =
     let reads : Reads (new_plain guarded map 0 fuse) m = subst (λ (o : MemSeen). Reads o m) e read in
     let here : (words : List ℕ) → FitsNotes m words → get_or words 1 0 ≡ number_word map 0 = λ words fits.
     (let before = reads.fits words fits in
-    let within : 1 < length words = rw before.are.many (number_inside map.geo) in
+    let within : 1 < length words = rw before.are.length_is (number_inside map.geo) in
     before.present 1 _ within (noted_inside map.geo (words_before map.geo 0) 1 map.words map.words (number_inside map.geo))) in
     record {
       noted = reads.noted 1 (rw (noted_inside map.geo (words_before map.geo 0) 1 map.words map.words (number_inside map.geo)) refl);
       even = λ words fits. rw (here words fits) are.even;
-      few = λ words fits. rw (here words fits) are.few;
+      not_last = λ words fits. rw (here words fits) are.not_last;
     }
 
 -- any change of them is done
@@ -197,9 +197,9 @@ cut_words geo map is e =
     let count : ℕ = words_in_map geo in
     let zeros : List ℕ = replicate count 0 in
     let long : length (slice_set zeros 1 12) ≡ count = length-set zeros 1 12 ∙ length-replicate {A = ℕ} count 0 in
-    let many = map_is_long geo is in
-    let four : 4 < length (slice_set zeros 1 12) = rw long many in
-    let two : 1 < length zeros = rw (length-replicate {A = ℕ} count 0) (omega (arith, many)) in
+    let length_is = map_is_long geo is in
+    let four : 4 < length (slice_set zeros 1 12) = rw long length_is in
+    let two : 1 < length zeros = rw (length-replicate {A = ℕ} count 0) (omega (arith, length_is)) in
     let apart : ◌≢◌ {A = ℕ} 1 4 = omega arith in
     let number : get_or (slice_set (slice_set zeros 1 12) 4 9) 1 0 ≡ 12 = get_or-set_other (slice_set zeros 1 12) 4 1 9 0 apart ∙ get_or-set_same zeros 1 12 0 two in
     let at_link : words_before geo 0 + tier_at geo 0 ≡ 4 = omega arith in
@@ -208,5 +208,5 @@ cut_words geo map is e =
       geo_is = is;
       link = rw at_link (get_or-set_same (slice_set zeros 1 12) 4 9 0 four);
       even = rw (at_one, number) refl;
-      few = rw (at_one, number) (omega arith);
+      not_last = rw (at_one, number) (omega arith);
     })

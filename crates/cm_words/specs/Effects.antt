@@ -48,7 +48,7 @@ pub record Writes (old now : MemSeen) (stores : List (ℕ × ℕ)) : Type 0 wher
   pub noted : StaysNoted old now
 
 -- some of these stores were made, from the first one on
-pub record WritesFront (old now : MemSeen) (stores : List (ℕ × ℕ)) : Type 0 where
+pub record WritesPrefix (old now : MemSeen) (stores : List (ℕ × ℕ)) : Type 0 where
   pub made : List (ℕ × ℕ)
   pub left : List (ℕ × ℕ)
   pub parts : made ++ left ≡ stores
@@ -66,14 +66,14 @@ abbrev pub IsSteady : Setting → ℕ → Type 0
 IsSteady setting at = IsTrue setting.shared → 0 < at
 
 -- the place is noted with this word, and each list that fits the notes has it there
-pub record Tells (m : MemSeen) (at word : ℕ) : Type 0 where
+pub record Knows (m : MemSeen) (at word : ℕ) : Type 0 where
   pub noted : IsSteady m.setting at → IsSomeAnd (m.noted at) (λ note. note.present ≡ word)
   pub here : IsSteady m.setting at → (words : List ℕ) → FitsNotes m words → word_at words at ≡ word
 
 -- this is half of the change number, which is noted; in a guarded memory it is even
-pub record TellsNumber (m : MemSeen) (number : ℕ) : Type 0 where
+pub record KnowsNumber (m : MemSeen) (number : ℕ) : Type 0 where
   pub word : ℕ
-  pub tells : Tells m 1 word
+  pub knows : Knows m 1 word
   pub half : word / 2 ≡ number
   pub even : IsTrue m.setting.guarded → word ≡ 2 * number
 
@@ -95,5 +95,5 @@ pub record Finishes (old now : MemSeen) (number : ℕ) : Type 0 where
   pub setting : now.setting ≡ old.setting
   pub plan : now.plan ≡ None
   pub came : (words : List ℕ) → FitsNotes now words → (before : List ℕ) × CameByNumber old before words
-  pub tells : Tells now 1 (2 * number)
+  pub knows : Knows now 1 (2 * number)
   pub noted : StaysNoted old now

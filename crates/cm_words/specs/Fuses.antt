@@ -6,18 +6,18 @@ use Rattle.cm_words.specs.declared.fuse.Admit.{Admit}
 use Rattle.cm_words.specs.declared.fuse.Admit.TheVariants.{Go, Die}
 
 -- how many stores, or how many events of all kinds, a fuse still admits
-pub data Told : Type 0 where
-  stores : ℕ → Told
-  events : ℕ → Told
+pub data Budget : Type 0 where
+  stores : ℕ → Budget
+  events : ℕ → Budget
 
 -- whether a fuse can die, how often it died, and the number that it tells, if any
 pub record FuseSeen : Type 0 where
   pub can_die : Bool
   pub deaths : ℕ
-  pub told : Option Told
+  pub budget : Option Budget
 
 -- an event of this kind counts for the number
-abbrev pub CountsFor : EventKind → Told → Type 0
+abbrev pub CountsFor : EventKind → Budget → Type 0
 CountsFor kind (events left) = Unit {0}
 CountsFor Store (stores left) = Unit {0}
 CountsFor Load (stores left) = ⊥
@@ -30,26 +30,26 @@ stores_in Load = 0
 stores_in Exchange = 0
 
 -- the number before and after events were admitted that raised the counts of events and of stores from these to those
-abbrev pub Falls : ℕ → ℕ → ℕ → ℕ → Option Told → Option Told → Type 0
-Falls e s later_e later_s None now = now ≡ None
-Falls e s later_e later_s (Some (stores before)) now = (left : ℕ) × (left + later_s ≡ before + s) × (now ≡ Some (stores left))
-Falls e s later_e later_s (Some (events before)) now = (left : ℕ) × (left + later_e ≡ before + e) × (now ≡ Some (events left))
+abbrev pub CountsDown : ℕ → ℕ → ℕ → ℕ → Option Budget → Option Budget → Type 0
+CountsDown e s later_e later_s None now = now ≡ None
+CountsDown e s later_e later_s (Some (stores before)) now = (left : ℕ) × (left + later_s ≡ before + s) × (now ≡ Some (stores left))
+CountsDown e s later_e later_s (Some (events before)) now = (left : ℕ) × (left + later_e ≡ before + e) × (now ≡ Some (events left))
 
 -- the number before these counts rose so, where the next event died: it was used up. None is told after a death
-abbrev pub WasUsedUp : ℕ → ℕ → ℕ → ℕ → Option Told → Option Told → Type 0
-WasUsedUp e s later_e later_s None now = now ≡ None
-WasUsedUp e s later_e later_s (Some (stores before)) now = (later_s ≡ before + s) × (now ≡ None)
-WasUsedUp e s later_e later_s (Some (events before)) now = (later_e ≡ before + e) × (now ≡ None)
+abbrev pub IsUsedUp : ℕ → ℕ → ℕ → ℕ → Option Budget → Option Budget → Type 0
+IsUsedUp e s later_e later_s None now = now ≡ None
+IsUsedUp e s later_e later_s (Some (stores before)) now = (later_s ≡ before + s) × (now ≡ None)
+IsUsedUp e s later_e later_s (Some (events before)) now = (later_e ≡ before + e) × (now ≡ None)
 
 -- the number before an event of this kind that was admitted, or that died, and after it
-abbrev pub TellsOn : EventKind → Admit → Option Told → Option Told → Type 0
-TellsOn kind Go before now = Falls 0 0 1 (stores_in kind) before now
-TellsOn kind Die None now = now ≡ None
-TellsOn kind Die (Some told) now = CountsFor kind told × WasUsedUp 0 0 0 0 (Some told) now
+abbrev pub SpendsBudget : EventKind → Admit → Option Budget → Option Budget → Type 0
+SpendsBudget kind Go before now = CountsDown 0 0 1 (stores_in kind) before now
+SpendsBudget kind Die None now = now ≡ None
+SpendsBudget kind Die (Some budget) now = CountsFor kind budget × IsUsedUp 0 0 0 0 (Some budget) now
 
 -- a fuse was asked for an event of this kind: it dies exactly where the count of deaths rises, and only where it can die
 pub record Admits (kind : EventKind) (before now : FuseSeen) (answer : Admit) : Type 0 where
   pub never_begins : IsTrue now.can_die → IsTrue before.can_die
   pub go : answer ≡ Go → now.deaths ≡ before.deaths
   pub die : answer ≡ Die → (before.deaths < now.deaths) × IsTrue before.can_die
-  pub told : TellsOn kind answer before.told now.told
+  pub budget : SpendsBudget kind answer before.budget now.budget

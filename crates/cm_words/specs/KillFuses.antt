@@ -8,14 +8,14 @@ use Rattle.cm_words.specs.declared.fuse.KillFuse.TheVariants.{Never, Stores, Eve
 
 -- a fuse that never dies
 abbrev pub never_seen : FuseSeen
-never_seen = record { can_die = false; deaths = 0; told = None }
+never_seen = record { can_die = false; deaths = 0; budget = None }
 
 -- all but the first can die; those that count tell what is left
 abbrev pub kill_seen : KillFuse → FuseSeen
 kill_seen Never = never_seen
-kill_seen (Stores left) = record { can_die = true; deaths = 0; told = Some (stores left) }
-kill_seen (Events left) = record { can_die = true; deaths = 0; told = Some (events left) }
-kill_seen (Spent deaths) = record { can_die = true; deaths = deaths; told = None }
+kill_seen (Stores left) = record { can_die = true; deaths = 0; budget = Some (stores left) }
+kill_seen (Events left) = record { can_die = true; deaths = 0; budget = Some (events left) }
+kill_seen (Spent deaths) = record { can_die = true; deaths = deaths; budget = None }
 
 -- the fuse after it was asked for an event of this kind: it counts down, and its death is the first one of a spent fuse
 abbrev pub kill_after : EventKind → KillFuse → KillFuse

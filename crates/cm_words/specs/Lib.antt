@@ -5,12 +5,12 @@ pub mod Fuses
 pub mod KillFuses
 pub mod Meters
 pub mod Metered
-pub mod Numbers
+pub mod Parity
 pub mod Memory
 pub mod Effects
 pub mod Stores
 pub mod Counts
-pub mod Kept
+pub mod PlanCopies
 pub mod Notes
 pub mod Plain
 pub mod Fixed

@@ -33,13 +33,13 @@ with_segment map segment words = record { geo = map.geo; words = written_over ma
 pub record Rest : Type 0 where
   pub geo : Geo
   pub before : List ℕ
-  pub behind : List ℕ
+  pub later : List ℕ
 
 abbrev pub rest_of : MapWords → ℕ → Rest
 rest_of map segment = record {
   geo = map.geo;
   before = take (words_before map.geo segment) map.words;
-  behind = drop (words_before map.geo segment + words_in_segment map.geo) map.words;
+  later = drop (words_before map.geo segment + words_in_segment map.geo) map.words;
 }
 
 -- a segment's change number

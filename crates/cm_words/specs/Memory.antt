@@ -8,7 +8,7 @@ use Rattle.cm_plain.specs.Steps.{Plans}
 use Rattle.cm_plain.specs.Slots.{word_at}
 use Rattle.cm_plain.specs.Lawful.{IsSegmentWords, Resting}
 use Rattle.cm_plain.specs.Torn.{Torn}
-use Rattle.cm_words.specs.declared.standing.Standing.{Standing}
+use Rattle.cm_words.specs.declared.access.Access.{Access}
 use Rattle.cm_words.specs.Meters.{MeterSeen}
 
 -- the word that stands at a place now, and its first word: the one that stood there when the plan under way began, or, where the place was
@@ -21,7 +21,7 @@ pub record Note : Type 0 where
 pub record Setting : Type 0 where
   pub geo : Geo
   pub segment : ℕ
-  pub standing : Standing
+  pub access : Access
   pub guarded : Bool
   pub shared : Bool
 
@@ -72,7 +72,7 @@ MayStore m at word =
 pub record HasEvenNumber (m : MemSeen) : Type 0 where
   pub noted : IsSome (m.noted 1)
   pub even : (words : List ℕ) → FitsNotes m words → word_at words 1 % 2 ≡ 0
-  pub few : (words : List ℕ) → FitsNotes m words → word_at words 1 < 2 ^ 63
+  pub not_last : (words : List ℕ) → FitsNotes m words → word_at words 1 < 2 ^ 63
 
 -- the plan is that of each state for which a list that fits the notes rests
 abbrev pub IsPlanHere : MemSeen → Change → Type 0

@@ -14,14 +14,14 @@ pub record WritesEach (old now : MemSeen) (stores : List ℕ → List (ℕ × �
   pub noted : StaysNoted old now
 
 -- a list came from one before by some of these stores, from the first one on
-pub record CameByFront (old now : MemSeen) (stores : List (ℕ × ℕ)) (before words : List ℕ) : Type 0 where
+pub record CameByPrefix (old now : MemSeen) (stores : List (ℕ × ℕ)) (before words : List ℕ) : Type 0 where
   pub made : List (ℕ × ℕ)
   pub left : List (ℕ × ℕ)
   pub parts : made ++ left ≡ stores
   pub by : CameBy old now made before words
 
 -- some of the stores for each list were made
-pub record WritesFrontEach (old now : MemSeen) (stores : List ℕ → List (ℕ × ℕ)) : Type 0 where
+pub record WritesPrefixEach (old now : MemSeen) (stores : List ℕ → List (ℕ × ℕ)) : Type 0 where
   pub kept : Keeps old now
-  pub came : (words : List ℕ) → FitsNotes now words → (before : List ℕ) × CameByFront old now (stores before) before words
+  pub came : (words : List ℕ) → FitsNotes now words → (before : List ℕ) × CameByPrefix old now (stores before) before words
   pub noted : StaysNoted old now

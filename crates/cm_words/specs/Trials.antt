@@ -10,7 +10,7 @@ use Rattle.cm_plain.specs.States.{State}
 use Rattle.cm_plain.specs.Slots.{word_at}
 use Rattle.cm_plain.specs.Torn.{Torn}
 use Rattle.cm_words.specs.Maps.{MapWords, number_word, words_before}
-use Rattle.cm_words.specs.Numbers.{IsEven}
+use Rattle.cm_words.specs.Parity.{IsEven}
 use Rattle.cm_words.specs.Memory.{FitsNotes, MemSeen}
 use Rattle.cm_words.specs.Effects.{after_stores}
 
@@ -50,4 +50,4 @@ pub record AreCut (map : MapWords) : Type 0 where
   pub geo_is : IsGeoOf map.geo 1 1 64 4 0
   pub link : slice_index map.words (words_before map.geo 0 + tier_at map.geo 0) ≡ 9
   pub even : IsEven (number_word map 0)
-  pub few : number_word map 0 < 2 ^ 63
+  pub not_last : number_word map 0 < 2 ^ 63

@@ -54,7 +54,7 @@ impl<'a> FixedMem<'a> {
 }
 
 impl<'a> Mem for FixedMem<'a> {
-    ghost use Rattle.cm_words.specs.Fixed.{SameWords, fixed_seen, same_words_on, same_words_still};
+    ghost use Rattle.cm_words.specs.Fixed.{SameWords, fixed_seen, same_words_transitive, same_words_reflexive};
     ghost use Rattle.cm_words.specs.Notes.{not_shared};
     ghost use Rattle.std.proofs.Common.{refl};
 
@@ -66,13 +66,13 @@ impl<'a> Mem for FixedMem<'a> {
 
     ghost lock_unnoted = { λ m. not_shared (fixed_seen m) refl };
 
-    ghost rest_stays = { same_words_still };
+    ghost rest_reflexive = { same_words_reflexive };
 
-    ghost rest_goes_on = { same_words_on };
+    ghost rest_transitive = { same_words_transitive };
 
-    ghost rest_goes_with = { λ a b c change number. same_words_on a b c };
+    ghost rest_then_change = { λ a b c change number. same_words_transitive a b c };
 
-    ghost rest_goes_behind = { λ a b c change number. same_words_on a b c };
+    ghost change_then_rest = { λ a b c change number. same_words_transitive a b c };
 
     fn load(&mut self, at: u32) -> Result<u64, Dead> {
         self.meter.ask(EventKind::Load)?;

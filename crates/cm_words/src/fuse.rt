@@ -109,7 +109,7 @@ impl KillFuse {
     /// The first death.
     fn die(&mut self) -> Admit
         ensures spent { self.new ≡ Spent 1 }
-        ensures dies { result ≡ Die }
+        ensures killed { result ≡ Die }
     {
         *self = KillFuse::Spent { deaths: 1 };
         Admit::Die

@@ -3,12 +3,12 @@
 ghost use Rattle.std.specs.Prelude.{◌≡◌, ◌≢◌, ◌<◌, IfOk, OnOk, OnErr, IsSome, IsTrue, None, Some, ℕ, [], ◌∷◌};
 ghost use Rattle.cm_geo.specs.Addresses.{words_in_segment};
 ghost use Rattle.cm_plain.specs.Changes.{Change};
-ghost use Rattle.cm_plain.specs.Plans.{IsShort, told_by};
-ghost use Rattle.cm_words.specs.declared.standing.Standing.TheVariants.{Closed, Writable};
+ghost use Rattle.cm_plain.specs.Plans.{IsShort, plan_change};
+ghost use Rattle.cm_words.specs.declared.access.Access.TheVariants.{Closed, Writable};
 ghost use Rattle.cm_words.specs.declared.fuse.EventKind.TheVariants.{Load, Store};
 ghost use Rattle.cm_words.specs.Memory.{HasEvenNumber, IsDone, IsPlanHere, MayStore, MemSeen};
-ghost use Rattle.cm_words.specs.Meters.{Goes, MakesEvent};
-ghost use Rattle.cm_words.specs.Effects.{Begins, Finishes, IsAsBefore, Reads, Tells, TellsNumber, Writes};
+ghost use Rattle.cm_words.specs.Meters.{ReportsDeath, MakesEvent};
+ghost use Rattle.cm_words.specs.Effects.{Begins, Finishes, IsAsBefore, Reads, Knows, KnowsNumber, Writes};
 
 use crate::fuse::Dead;
 use cm_plain::Plan;
@@ -32,13 +32,13 @@ pub trait Mem {
 
     /// The word at a place.
     fn load(&mut self, at: u32) -> Result<u64, Dead>
-        requires open { (seen self.old).setting.standing ≢ Closed }
+        requires open { (seen self.old).setting.access ≢ Closed }
         requires in_range { at < words_in_segment (seen self.old).setting.geo }
         ensures rest { same_rest self.old self.new }
-        ensures goes { Goes (seen self.old).meter (seen self.new).meter result }
+        ensures fuse { ReportsDeath (seen self.old).meter (seen self.new).meter result }
         ensures event { MakesEvent Load (seen self.old).meter (seen self.new).meter result }
         ensures reads { Reads (seen self.old) (seen self.new) }
-        ensures word { IfOk result (Tells (seen self.new) at) }
+        ensures word { IfOk result (Knows (seen self.new) at) }
         ensures dead { OnErr result (IsAsBefore (seen self.old) (seen self.new)) };
 
     /// Sets the word at a place behind the lock word and the change number; all others stay.
@@ -46,48 +46,48 @@ pub trait Mem {
     /// A guarded memory is stored in under a plan alone, and each store has to leave the words torn for
     /// this plan, so that recovery finds the state before or after it.
     fn store(&mut self, at: u32, word: u64) -> Result<(), Dead>
-        requires writable { (seen self.old).setting.standing ≡ Writable }
+        requires writable { (seen self.old).setting.access ≡ Writable }
         requires in_range { at < words_in_segment (seen self.old).setting.geo }
         requires inner { 1 < at }
         requires allowed { MayStore (seen self.old) at word }
         ensures rest { same_rest self.old self.new }
-        ensures goes { Goes (seen self.old).meter (seen self.new).meter result }
+        ensures fuse { ReportsDeath (seen self.old).meter (seen self.new).meter result }
         ensures event { MakesEvent Store (seen self.old).meter (seen self.new).meter result }
         ensures writes { OnOk result (Writes (seen self.old) (seen self.new) ((at, word) ∷ [])) }
-        ensures word { OnOk result (Tells (seen self.new) at word) }
+        ensures word { OnOk result (Knows (seen self.new) at word) }
         ensures dead { OnErr result (IsAsBefore (seen self.old) (seen self.new)) };
 
     /// Half of the change number, by one load: how many changes the segment took.
     fn number(&mut self) -> Result<u64, Dead>
-        requires open { (seen self.old).setting.standing ≢ Closed }
+        requires open { (seen self.old).setting.access ≢ Closed }
         requires idle { (seen self.old).plan ≡ None }
         ensures rest { same_rest self.old self.new }
-        ensures goes { Goes (seen self.old).meter (seen self.new).meter result }
+        ensures fuse { ReportsDeath (seen self.old).meter (seen self.new).meter result }
         ensures event { MakesEvent Load (seen self.old).meter (seen self.new).meter result }
         ensures reads { Reads (seen self.old) (seen self.new) }
-        ensures number { IfOk result (TellsNumber (seen self.new)) }
+        ensures number { IfOk result (KnowsNumber (seen self.new)) }
         ensures dead { OnErr result (IsAsBefore (seen self.old) (seen self.new)) };
 
     /// Begins a change: stores the next change number, which is odd, and the plan is under way.
     fn begin(&mut self, plan: &Plan<'_>) -> Result<(), Dead>
-        requires writable { (seen self.old).setting.standing ≡ Writable }
+        requires writable { (seen self.old).setting.access ≡ Writable }
         requires idle { (seen self.old).plan ≡ None }
-        requires short { IsShort (told_by plan.now) }
+        requires within_limits { IsShort (plan_change plan.now) }
         requires number { HasEvenNumber (seen self.old) }
-        requires planned { IsPlanHere (seen self.old) (told_by plan.now) }
+        requires planned { IsPlanHere (seen self.old) (plan_change plan.now) }
         ensures rest { same_rest self.old self.new }
-        ensures goes { Goes (seen self.old).meter (seen self.new).meter result }
+        ensures fuse { ReportsDeath (seen self.old).meter (seen self.new).meter result }
         ensures event { MakesEvent Store (seen self.old).meter (seen self.new).meter result }
-        ensures begins { OnOk result (Begins (seen self.old) (seen self.new) (told_by plan.now)) }
+        ensures begins { OnOk result (Begins (seen self.old) (seen self.new) (plan_change plan.now)) }
         ensures dead { OnErr result (IsAsBefore (seen self.old) (seen self.new)) };
 
     /// Ends the change: stores the next change number, which is even, and answers its half.
     fn finish(&mut self) -> Result<u64, Dead>
-        requires writable { (seen self.old).setting.standing ≡ Writable }
+        requires writable { (seen self.old).setting.access ≡ Writable }
         requires under_way { IsSome (seen self.old).plan }
         requires done { (change : Change) → (seen self.old).plan ≡ Some change → IsDone (seen self.old) change }
         ensures rest { IfOk result (λ number. (change : Change) → (seen self.old).plan ≡ Some change → rest_with self.old self.new change number) }
-        ensures goes { Goes (seen self.old).meter (seen self.new).meter result }
+        ensures fuse { ReportsDeath (seen self.old).meter (seen self.new).meter result }
         ensures event { MakesEvent Store (seen self.old).meter (seen self.new).meter result }
         ensures finishes { IfOk result (Finishes (seen self.old) (seen self.new)) }
         ensures dead { OnErr result (IsAsBefore (seen self.old) (seen self.new)) }
@@ -95,11 +95,11 @@ pub trait Mem {
 
     ghost lock_unnoted: { (m : Self) → IsTrue (seen m).setting.shared → (seen m).noted 0 ≡ None };
 
-    ghost rest_stays: { (m : Self) → same_rest m m };
+    ghost rest_reflexive: { (m : Self) → same_rest m m };
 
-    ghost rest_goes_on: { (a b c : Self) → same_rest a b → same_rest b c → same_rest a c };
+    ghost rest_transitive: { (a b c : Self) → same_rest a b → same_rest b c → same_rest a c };
 
-    ghost rest_goes_with: { (a b c : Self) (change : Change) (number : ℕ) → same_rest a b → rest_with b c change number → rest_with a c change number };
+    ghost rest_then_change: { (a b c : Self) (change : Change) (number : ℕ) → same_rest a b → rest_with b c change number → rest_with a c change number };
 
-    ghost rest_goes_behind: { (a b c : Self) (change : Change) (number : ℕ) → rest_with a b change number → same_rest b c → rest_with a c change number };
+    ghost change_then_rest: { (a b c : Self) (change : Change) (number : ℕ) → rest_with a b change number → same_rest b c → rest_with a c change number };
 }

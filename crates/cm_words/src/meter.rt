@@ -1,8 +1,8 @@
 //! A fuse, with the events that it admitted counted for contracts.
 
 ghost use Rattle.std.specs.Prelude.{◌≡◌, OnErr};
-ghost use Rattle.cm_words.specs.Meters.{Goes, MakesEvent, unused};
-ghost use Rattle.cm_words.specs.Metered.{metered};
+ghost use Rattle.cm_words.specs.Meters.{ReportsDeath, MakesEvent, unused};
+ghost use Rattle.cm_words.specs.Metered.{meter_seen};
 
 use crate::count::Count;
 use crate::fuse::{Admit, Dead, EventKind, Fuse};
@@ -18,7 +18,7 @@ pub(crate) struct Meter<F: Fuse> {
 impl<F: Fuse> Meter<F> {
     /// No event was asked for yet.
     pub(crate) fn new(fuse: F) -> Meter<F>
-        ensures { metered F.fused result ≡ unused (F.fused fuse) }
+        ensures { meter_seen F.fused result ≡ unused (F.fused fuse) }
     {
         Meter {
             fuse,
@@ -29,8 +29,8 @@ impl<F: Fuse> Meter<F> {
 
     /// Asks the fuse for one event.
     pub(crate) fn ask(&mut self, kind: EventKind) -> Result<(), Dead>
-        ensures goes { Goes (metered F.fused self.old) (metered F.fused self.new) result }
-        ensures event { MakesEvent kind (metered F.fused self.old) (metered F.fused self.new) result }
+        ensures fuse { ReportsDeath (meter_seen F.fused self.old) (meter_seen F.fused self.new) result }
+        ensures event { MakesEvent kind (meter_seen F.fused self.old) (meter_seen F.fused self.new) result }
         ensures dead_events { OnErr result (self.new.events ≡ self.old.events) }
         ensures dead_stores { OnErr result (self.new.stores ≡ self.old.stores) }
     {

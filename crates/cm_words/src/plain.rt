@@ -3,12 +3,12 @@
 ghost use Rattle.std.specs.Prelude.{◌≡◌, ◌<◌, ◌^◌, ◌+◌, All, true, false, is_some, slice_index};
 ghost use Rattle.cm_geo.specs.Addresses.{words_in_map, words_in_segment};
 ghost use Rattle.cm_words.specs.Maps.{IsWhole, number_word, words_before};
-ghost use Rattle.cm_words.specs.Numbers.{IsEven, IsOdd};
+ghost use Rattle.cm_words.specs.Parity.{IsEven, IsOdd};
 
 use crate::fuse::{Dead, EventKind, Fuse};
-use crate::kept::KeptPlan;
 use crate::mem::Mem;
 use crate::meter::Meter;
+use crate::plan_copy::PlanCopy;
 use crate::words::Words;
 use cm_plain::Plan;
 use std::snapshot::Snapshot;
@@ -22,7 +22,7 @@ pub struct PlainMem<'a, F: Fuse> {
     start: u32,
     is_guarded: bool,
     meter: Meter<F>,
-    plan: Option<KeptPlan>,
+    plan: Option<PlanCopy>,
     // the words as the plan under way began, for contracts alone
     first: Snapshot<Words>,
     pub ghost here: { segment < words.now.geo.segments },
@@ -101,7 +101,7 @@ impl<'a, F: Fuse> Drop for PlainMem<'a, F> {
 }
 
 impl<'a, F: Fuse> Mem for PlainMem<'a, F> {
-    ghost use Rattle.cm_words.specs.Plain.{SameRest, plain_seen, same_rest_on, same_rest_still};
+    ghost use Rattle.cm_words.specs.Plain.{SameRest, plain_seen, same_rest_transitive, same_rest_reflexive};
     ghost use Rattle.cm_words.specs.Notes.{not_shared};
     ghost use Rattle.std.proofs.Common.{refl};
 
@@ -113,13 +113,13 @@ impl<'a, F: Fuse> Mem for PlainMem<'a, F> {
 
     ghost lock_unnoted = { λ m. not_shared (plain_seen F.fused m) refl };
 
-    ghost rest_stays = { λ m. same_rest_still m };
+    ghost rest_reflexive = { λ m. same_rest_reflexive m };
 
-    ghost rest_goes_on = { λ a b c. same_rest_on a b c };
+    ghost rest_transitive = { λ a b c. same_rest_transitive a b c };
 
-    ghost rest_goes_with = { λ a b c change number. same_rest_on a b c };
+    ghost rest_then_change = { λ a b c change number. same_rest_transitive a b c };
 
-    ghost rest_goes_behind = { λ a b c change number. same_rest_on a b c };
+    ghost change_then_rest = { λ a b c change number. same_rest_transitive a b c };
 
     fn load(&mut self, at: u32) -> Result<u64, Dead> {
         self.meter.ask(EventKind::Load)?;
@@ -146,7 +146,7 @@ impl<'a, F: Fuse> Mem for PlainMem<'a, F> {
         let even = self.words.get(place);
         self.words.set(place, even + 1);
         self.first = Snapshot::of(self.words);
-        self.plan = Some(KeptPlan::of(plan));
+        self.plan = Some(PlanCopy::of(plan));
         Ok(())
     }
 

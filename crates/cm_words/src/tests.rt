@@ -2,11 +2,11 @@
 
 ghost use Rattle.std.specs.Prelude.{◌≡◌, ◌≢◌, ◌<◌, IfSome, None, OnOk, OnErr, [], ◌∷◌};
 ghost use Rattle.cm_geo.specs.Addresses.{words_in_map, words_in_segment};
-ghost use Rattle.cm_words.specs.declared.standing.Standing.TheVariants.{Closed, Writable};
-ghost use Rattle.cm_words.specs.Meters.{Goes};
-ghost use Rattle.cm_plain.specs.Plans.{IsShort, told_by};
+ghost use Rattle.cm_words.specs.declared.access.Access.TheVariants.{Closed, Writable};
+ghost use Rattle.cm_words.specs.Meters.{ReportsDeath};
+ghost use Rattle.cm_plain.specs.Plans.{IsShort, plan_change};
 ghost use Rattle.cm_words.specs.Memory.{HasEvenNumber, IsPlanHere};
-ghost use Rattle.cm_words.specs.Effects.{MayStoreAll, Writes, WritesFront, after_stores};
+ghost use Rattle.cm_words.specs.Effects.{MayStoreAll, Writes, WritesPrefix, after_stores};
 ghost use Rattle.cm_words.specs.Maps.{rest_of, segment_in};
 ghost use Rattle.cm_words.specs.Trials.{AreCut, AreNew, KeepsTorn, StoresUnder, first_put};
 
@@ -19,16 +19,16 @@ use std::test::Fail;
 
 /// Two stores.
 fn store_two<M: Mem>(mem: &mut M, first: u32, one: u64, second: u32, other: u64) -> Result<(), Dead>
-    requires writable { (M.seen mem.old).setting.standing ≡ Writable }
+    requires writable { (M.seen mem.old).setting.access ≡ Writable }
     requires first { 1 < first }
     requires first_in { first < words_in_segment (M.seen mem.old).setting.geo }
     requires second { 1 < second }
     requires second_in { second < words_in_segment (M.seen mem.old).setting.geo }
     requires allowed { MayStoreAll (M.seen mem.old) ((first, one) ∷ (second, other) ∷ []) }
     ensures rest { M.same_rest mem.old mem.new }
-    ensures goes { Goes (M.seen mem.old).meter (M.seen mem.new).meter result }
+    ensures fuse { ReportsDeath (M.seen mem.old).meter (M.seen mem.new).meter result }
     ensures writes { OnOk result (Writes (M.seen mem.old) (M.seen mem.new) ((first, one) ∷ (second, other) ∷ [])) }
-    ensures dead { OnErr result (WritesFront (M.seen mem.old) (M.seen mem.new) ((first, one) ∷ (second, other) ∷ [])) }
+    ensures dead { OnErr result (WritesPrefix (M.seen mem.old) (M.seen mem.new) ((first, one) ∷ (second, other) ∷ [])) }
 {
     mem.store(first, one)?;
     mem.store(second, other)?;
@@ -44,20 +44,20 @@ fn begin_and_store<M: Mem>(
     second: u32,
     other: u64,
 ) -> Result<(), Dead>
-    requires writable { (M.seen mem.old).setting.standing ≡ Writable }
+    requires writable { (M.seen mem.old).setting.access ≡ Writable }
     requires idle { (M.seen mem.old).plan ≡ None }
-    requires short { IsShort (told_by plan.now) }
+    requires within_limits { IsShort (plan_change plan.now) }
     requires number { HasEvenNumber (M.seen mem.old) }
-    requires planned { IsPlanHere (M.seen mem.old) (told_by plan.now) }
+    requires planned { IsPlanHere (M.seen mem.old) (plan_change plan.now) }
     requires first { 1 < first }
     requires first_in { first < words_in_segment (M.seen mem.old).setting.geo }
     requires second { 1 < second }
     requires second_in { second < words_in_segment (M.seen mem.old).setting.geo }
-    requires first_kept { KeepsTorn (M.seen mem.old).setting.geo (told_by plan.now) first one }
-    requires second_kept { KeepsTorn (M.seen mem.old).setting.geo (told_by plan.now) second other }
+    requires first_kept { KeepsTorn (M.seen mem.old).setting.geo (plan_change plan.now) first one }
+    requires second_kept { KeepsTorn (M.seen mem.old).setting.geo (plan_change plan.now) second other }
     ensures rest { M.same_rest mem.old mem.new }
-    ensures goes { Goes (M.seen mem.old).meter (M.seen mem.new).meter result }
-    ensures stored { OnOk result (StoresUnder (M.seen mem.old) (M.seen mem.new) (told_by plan.now) ((first, one) ∷ (second, other) ∷ [])) }
+    ensures fuse { ReportsDeath (M.seen mem.old).meter (M.seen mem.new).meter result }
+    ensures stored { OnOk result (StoresUnder (M.seen mem.old) (M.seen mem.new) (plan_change plan.now) ((first, one) ∷ (second, other) ∷ [])) }
 {
     mem.begin(plan)?;
     store_two(mem, first, one, second, other)?;
@@ -189,7 +189,7 @@ fn the_words_of_three_keys_stand_at_their_places(rt: HostRuntime) -> Result<(), 
 /// Two stores between two loads in a memory that stores anything. The lender's words are then those that
 /// the stores lead to, and the words of other segments are as they were.
 fn load_and_store<F: Fuse>(words: &mut Words, fuse: F) -> Result<u64, Dead>
-    requires some { 0 < words.old.geo.segments }
+    requires nonzero { 0 < words.old.geo.segments }
     requires long { 8 < words_in_segment words.old.geo }
     ensures stored { OnOk result (segment_in words.new 0 ≡ after_stores (segment_in words.old 0) ((2, 7) ∷ (3, 9) ∷ [])) }
     ensures rest { rest_of words.new 0 ≡ rest_of words.old 0 }
@@ -230,7 +230,7 @@ fn a_memory_is_as_the_last_admitted_store_left_it(rt: HostRuntime) -> Result<(),
 
 /// The plan of the first put of the value 1 for the key a.
 fn first_put() -> Plan<'static>
-    ensures { told_by result ≡ first_put }
+    ensures { plan_change result ≡ first_put }
 {
     Plan {
         ask: Ask::Put {

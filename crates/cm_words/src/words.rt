@@ -82,7 +82,7 @@ impl Words {
     }
 
     /// The place in the map of a segment's first word.
-    #[tactic(auto, using(crate::proofs::Places::segment_inside))]
+    #[tactic(auto, using(crate::proofs::MapPlaces::segment_inside))]
     pub(crate) fn start_of(&self, segment: u32) -> u32
         requires { segment < self.now.geo.segments }
         ensures value { result ≡ words_before self.now.geo segment }

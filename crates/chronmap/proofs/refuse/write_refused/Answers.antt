@@ -3,7 +3,7 @@ use Rattle.std.proofs.lemmas.Result.{on_ok_weaker, on_err_weaker}
 use Rattle.std.specs.Io.KnownBytes.{Appends}
 use Rattle.cm_script.specs.declared.stop.LineCause.{LineCause}
 use Rattle.chronmap.specs.Statuses.{cause_word}
-use Rattle.chronmap.specs.Told.{AppendsFront}
+use Rattle.chronmap.specs.Told.{AppendsPrefix}
 use Rattle.chronmap.proofs.Appending.{appends-more, appends-front, front-more, on_err-any, five_parts}
 use Rattle.chronmap.proofs.refuse.write_refused.Goals as goal
 
@@ -11,7 +11,7 @@ pub returns-in_err-write_text-clause-front : goal.returns-in_err-write_text-clau
 returns-in_err-write_text-clause-front g c =
     let tail = codes "," ++ cause_word c.args.cause ++ codes "\n" in
     on_err-any _ c.from_residual.result (
-    subst (λ (t : List ℕ). AppendsFront (g.W.Sink.held c.args.sink.now) (g.W.Sink.held c.write_text.new.sink) t)
+    subst (λ (t : List ℕ). AppendsPrefix (g.W.Sink.held c.args.sink.now) (g.W.Sink.held c.write_text.new.sink) t)
     (five_parts (codes "refused,script,") (decimal c.args.line) (codes ",") (cause_word c.args.cause) (codes "\n"))
     (front-more _ _ (codes "refused,script,") (decimal c.args.line ++ tail) c.in_err-write_text.ensures.front))
 
@@ -21,7 +21,7 @@ returns-in_err-write_text-2-clause-front g c =
     let tail = codes "," ++ cause_word c.args.cause ++ codes "\n" in
     let is : c.as_bytes.result.now ≡ digits = c.as_bytes.ensures.value ∙ c.format.ensures.text in
     on_err-any _ c.from_residual-in_err-write_text-2.result (
-    subst (λ (t : List ℕ). AppendsFront (g.W.Sink.held c.args.sink.now) (g.W.Sink.held c.write_text-2.new.sink) t)
+    subst (λ (t : List ℕ). AppendsPrefix (g.W.Sink.held c.args.sink.now) (g.W.Sink.held c.write_text-2.new.sink) t)
     (five_parts (codes "refused,script,") digits (codes ",") (cause_word c.args.cause) (codes "\n"))
     (appends-front _ _ _ (codes "refused,script,") (digits ++ tail) c.in_ok-write_text.ensures.whole (
     front-more _ _ digits tail (rw is at c.in_err-write_text-2.ensures.front))))
@@ -44,5 +44,5 @@ returns-clause-whole g c =
 pub returns-clause-front : goal.returns-clause-front
 returns-clause-front g c =
     on_err_weaker c.write_text-3.result
-    (of_parts AppendsFront appends-front _ _ _ _ c.args.line c.args.cause c.in_ok-write_text.ensures.whole (rw (c.as_bytes.ensures.value ∙ c.format.ensures.text) at c.in_ok-write_text-2.ensures.whole))
+    (of_parts AppendsPrefix appends-front _ _ _ _ c.args.line c.args.cause c.in_ok-write_text.ensures.whole (rw (c.as_bytes.ensures.value ∙ c.format.ensures.text) at c.in_ok-write_text-2.ensures.whole))
     (rw c.cause_end.ensures at c.write_text-3.ensures.front)

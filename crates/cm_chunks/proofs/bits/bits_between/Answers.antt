@@ -1,5 +1,5 @@
-use Rattle.cm_chunks.proofs.OneWord.{between}
+use Rattle.cm_chunks.proofs.WordBits.{between}
 use Rattle.cm_chunks.proofs.bits.bits_between.Goals as goal
 
 pub returns : goal.returns
-returns c = between c.args.low c.args.high c.requires.some c.requires.inside
+returns c = between c.args.low c.args.high c.requires.nonzero c.requires.inside

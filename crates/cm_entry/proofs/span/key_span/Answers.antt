@@ -1,7 +1,7 @@
 use Rattle.std.proofs.Common.{arith}
-use Rattle.cm_geo.proofs.InOrder.{segment_limit}
+use Rattle.cm_geo.proofs.AddressOrder.{segment_limit}
 use Rattle.cm_entry.proofs.Summing.{words_long}
-use Rattle.cm_entry.proofs.Standing.{key_stands}
+use Rattle.cm_entry.proofs.EntryAt.{key_stands}
 use Rattle.cm_entry.proofs.span.key_span.Goals as goal
 
 pub overflow_add-chunk_at : goal.overflow_add-chunk_at

@@ -1,5 +1,5 @@
 use Rattle.cm_entry.proofs.Summing.{words_long}
-use Rattle.cm_entry.proofs.Standing.{entry_lengths, lengths_told}
+use Rattle.cm_entry.proofs.EntryAt.{entry_lengths, lengths_told}
 use Rattle.cm_entry.proofs.span.lengths.Goals as goal
 
 pub returns-clause-halves : goal.returns-clause-halves

@@ -1,8 +1,8 @@
 use Rattle.std.proofs.Common.{arith}
-use Rattle.cm_geo.proofs.InOrder.{segment_limit}
-use Rattle.cm_entry.proofs.Words.{parts_are}
+use Rattle.cm_geo.proofs.AddressOrder.{segment_limit}
+use Rattle.cm_entry.proofs.SpanWords.{parts_are}
 use Rattle.cm_entry.proofs.Summing.{words_long}
-use Rattle.cm_entry.proofs.Standing.{value_stands}
+use Rattle.cm_entry.proofs.EntryAt.{value_stands}
 use Rattle.cm_entry.proofs.span.value_span.Goals as goal
 
 pub overflow_add-at : goal.overflow_add-at

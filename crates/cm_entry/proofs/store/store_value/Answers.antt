@@ -1,8 +1,8 @@
 use Rattle.std.proofs.Common.{ℕ, ◌+◌, arith, ap, Ok}
-use Rattle.cm_geo.proofs.InOrder.{segment_limit}
-use Rattle.cm_words.proofs.Counting.{goes_on}
-use Rattle.cm_words.proofs.Fits.{on_err}
-use Rattle.cm_entry.proofs.Writing.{front_sum, front_value_words, may_sum, may_value_words, sum_is, writes_value}
+use Rattle.cm_geo.proofs.AddressOrder.{segment_limit}
+use Rattle.cm_words.proofs.MeterCounts.{reports_after}
+use Rattle.cm_words.proofs.FittingLists.{on_err}
+use Rattle.cm_entry.proofs.Writing.{prefix_checksum, prefix_value_words, may_sum, may_value_words, sum_is, writes_value}
 use Rattle.cm_entry.proofs.store.store_value.Goals as goal
 
 pub overflow_add-at : goal.overflow_add-at
@@ -17,7 +17,7 @@ store_bytes-requires-clause-allowed g c =
 
 pub returns-in_err-checksum-clause-dead : goal.returns-in_err-checksum-clause-dead
 returns-in_err-checksum-clause-dead g c =
-    on_err _ (front_value_words (g.M.Mem.seen c.args.mem.now) (g.M.Mem.seen c.store_bytes.new.mem) c.args.at (c.args.at + 2 + c.words_for.result) c.args.key.now c.args.value.now
+    on_err _ (prefix_value_words (g.M.Mem.seen c.args.mem.now) (g.M.Mem.seen c.store_bytes.new.mem) c.args.at (c.args.at + 2 + c.words_for.result) c.args.key.now c.args.value.now
     (ap (λ (n : ℕ). c.args.at + 2 + n) c.words_for.ensures) c.in_err-checksum.ensures.dead)
 
 pub overflow_add-at-3 : goal.overflow_add-at-3
@@ -31,11 +31,11 @@ store-requires-clause-allowed g c =
 
 pub returns-in_err-store-clause-dead : goal.returns-in_err-store-clause-dead
 returns-in_err-store-clause-dead g c =
-    on_err _ (front_sum (g.M.Mem.seen c.args.mem.now) (g.M.Mem.seen c.store_bytes.new.mem) (g.M.Mem.seen c.store.new.self) c.args.at (c.args.at + 2 + c.words_for.result) c.args.key.now c.args.value.now
+    on_err _ (prefix_checksum (g.M.Mem.seen c.args.mem.now) (g.M.Mem.seen c.store_bytes.new.mem) (g.M.Mem.seen c.store.new.self) c.args.at (c.args.at + 2 + c.words_for.result) c.args.key.now c.args.value.now
     (ap (λ (n : ℕ). c.args.at + 2 + n) c.words_for.ensures) c.in_ok-checksum.ensures.stored c.in_err-store.ensures.dead.reads)
 
-pub returns-clause-goes : goal.returns-clause-goes
-returns-clause-goes g c = goes_on _ _ _ (Ok tt) c.in_ok-checksum.ensures.goes.lives c.in_ok-store.ensures.goes
+pub returns-clause-fuse : goal.returns-clause-fuse
+returns-clause-fuse g c = reports_after _ _ _ (Ok tt) c.in_ok-checksum.ensures.fuse.survives c.in_ok-store.ensures.fuse
 
 pub returns-clause-stored : goal.returns-clause-stored
 returns-clause-stored g c =

@@ -1,11 +1,11 @@
 use Rattle.std.proofs.Common.{ℕ, arith, ap, sym, subst, ◌∙◌, Ok}
 use Rattle.cm_geo.specs.Hash.{hash}
-use Rattle.cm_geo.proofs.InOrder.{segment_limit}
-use Rattle.cm_words.specs.Effects.{MayStoreAll, Writes, WritesFront}
-use Rattle.cm_words.proofs.Counting.{goes_on, lives_on}
-use Rattle.cm_words.proofs.Fits.{front_none, on_err}
+use Rattle.cm_geo.proofs.AddressOrder.{segment_limit}
+use Rattle.cm_words.specs.Effects.{MayStoreAll, Writes, WritesPrefix}
+use Rattle.cm_words.proofs.MeterCounts.{reports_after, survives_transitive}
+use Rattle.cm_words.proofs.FittingLists.{prefix_none, on_err}
 use Rattle.cm_entry.specs.Writing.{entry_stores}
-use Rattle.cm_entry.proofs.Writing.{behind_heads, entry_stands, front_key_words, front_value, geo_kept, may_first, may_key_words, may_value, room_in, so_far_is, writes_entry}
+use Rattle.cm_entry.proofs.Writing.{behind_heads, entry_stands, prefix_key_words, prefix_value, geo_kept, may_first, may_key_words, may_value, room_in, so_far_is, writes_entry}
 use Rattle.cm_entry.proofs.store.write.Goals as goal
 
 pub store-requires-clause-inner : goal.store-requires-clause-inner
@@ -17,7 +17,7 @@ store-requires-clause-allowed g c =
     (subst (λ (n : ℕ). MayStoreAll (g.M.Mem.seen c.args.mem.now) (entry_stores n c.args.key.now c.args.value.now)) (sym c.chunk_at-at.ensures.value) c.requires.allowed)
 
 pub returns-in_err-store-clause-dead : goal.returns-in_err-store-clause-dead
-returns-in_err-store-clause-dead g c = on_err _ (front_none _ _ _ c.in_err-store.ensures.dead.reads)
+returns-in_err-store-clause-dead g c = on_err _ (prefix_none _ _ _ c.in_err-store.ensures.dead.reads)
 
 pub overflow_add-at : goal.overflow_add-at
 overflow_add-at g c =
@@ -40,8 +40,8 @@ store_bytes-requires-clause-allowed g c =
 pub returns-in_err-over_key-clause-dead : goal.returns-in_err-over_key-clause-dead
 returns-in_err-over_key-clause-dead g c =
     on_err _
-    (subst (λ (n : ℕ). WritesFront (g.M.Mem.seen c.args.mem.now) (g.M.Mem.seen c.store_bytes.new.mem) (entry_stores n c.args.key.now c.args.value.now)) c.chunk_at-at.ensures.value
-    (front_key_words (g.M.Mem.seen c.args.mem.now) (g.M.Mem.seen c.store.new.self) (g.M.Mem.seen c.store_bytes.new.mem) c.chunk_at-at.result c.head_of-head.result c.args.key.now c.args.value.now c.head_of-head.ensures
+    (subst (λ (n : ℕ). WritesPrefix (g.M.Mem.seen c.args.mem.now) (g.M.Mem.seen c.store_bytes.new.mem) (entry_stores n c.args.key.now c.args.value.now)) c.chunk_at-at.ensures.value
+    (prefix_key_words (g.M.Mem.seen c.args.mem.now) (g.M.Mem.seen c.store.new.self) (g.M.Mem.seen c.store_bytes.new.mem) c.chunk_at-at.result c.head_of-head.result c.args.key.now c.args.value.now c.head_of-head.ensures
     c.in_ok-store.ensures.writes c.in_err-over_key.ensures.dead))
 
 pub store_value-requires-clause-inner : goal.store_value-requires-clause-inner
@@ -66,13 +66,13 @@ store_value-requires-clause-allowed g c =
 pub returns-in_err-store_value-clause-dead : goal.returns-in_err-store_value-clause-dead
 returns-in_err-store_value-clause-dead g c =
     on_err _
-    (subst (λ (n : ℕ). WritesFront (g.M.Mem.seen c.args.mem.now) (g.M.Mem.seen c.store_value.new.mem) (entry_stores n c.args.key.now c.args.value.now)) c.chunk_at-at.ensures.value
-    (front_value (g.M.Mem.seen c.args.mem.now) (g.M.Mem.seen c.store.new.self) (g.M.Mem.seen c.store_bytes.new.mem) (g.M.Mem.seen c.store_value.new.mem) c.chunk_at-at.result c.head_of-head.result c.args.key.now c.args.value.now c.head_of-head.ensures
+    (subst (λ (n : ℕ). WritesPrefix (g.M.Mem.seen c.args.mem.now) (g.M.Mem.seen c.store_value.new.mem) (entry_stores n c.args.key.now c.args.value.now)) c.chunk_at-at.ensures.value
+    (prefix_value (g.M.Mem.seen c.args.mem.now) (g.M.Mem.seen c.store.new.self) (g.M.Mem.seen c.store_bytes.new.mem) (g.M.Mem.seen c.store_value.new.mem) c.chunk_at-at.result c.head_of-head.result c.args.key.now c.args.value.now c.head_of-head.ensures
     c.in_ok-store.ensures.writes c.in_ok-over_key.ensures.stored c.in_err-store_value.ensures.dead))
 
-pub returns-clause-goes : goal.returns-clause-goes
-returns-clause-goes g c =
-    goes_on _ _ _ (Ok tt) (lives_on _ (g.M.Mem.seen c.store.new.self).meter _ c.in_ok-store.ensures.goes.lives c.in_ok-over_key.ensures.goes.lives) c.in_ok-store_value.ensures.goes
+pub returns-clause-fuse : goal.returns-clause-fuse
+returns-clause-fuse g c =
+    reports_after _ _ _ (Ok tt) (survives_transitive _ (g.M.Mem.seen c.store.new.self).meter _ c.in_ok-store.ensures.fuse.survives c.in_ok-over_key.ensures.fuse.survives) c.in_ok-store_value.ensures.fuse
 
 stored : goal.returns-clause-stored
 stored g c =

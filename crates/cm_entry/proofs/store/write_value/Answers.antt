@@ -2,11 +2,11 @@ use Rattle.std.proofs.Common.{ℕ, arith, ap, sym, subst, ◌∙◌, Ok}
 use Rattle.cm_geo.specs.Hash.{hash}
 use Rattle.cm_plain.specs.Readings.{head_of}
 use Rattle.cm_words.specs.Effects.{Writes}
-use Rattle.cm_words.specs.Stores.{MayStoreEach, WritesEach, WritesFrontEach}
-use Rattle.cm_words.proofs.Counting.{goes_on}
-use Rattle.cm_words.proofs.Fits.{on_err}
+use Rattle.cm_words.specs.Stores.{MayStoreEach, WritesEach, WritesPrefixEach}
+use Rattle.cm_words.proofs.MeterCounts.{reports_after}
+use Rattle.cm_words.proofs.FittingLists.{on_err}
 use Rattle.cm_entry.specs.Writing.{head_stores, replacing_stores, value_stores}
-use Rattle.cm_entry.proofs.Writing.{behind_heads, front_replaced, geo_kept, may_head, may_value_each, room_in, so_far_is, value_stands}
+use Rattle.cm_entry.proofs.Writing.{behind_heads, prefix_replaced, geo_kept, may_head, may_value_each, room_in, so_far_is, value_stands}
 use Rattle.cm_entry.proofs.store.write_value.Goals as goal
 
 pub store_head-requires-clause-inner : goal.store_head-requires-clause-inner
@@ -38,12 +38,12 @@ store_value-requires-clause-allowed g c =
 pub returns-in_err-store_value-clause-dead : goal.returns-in_err-store_value-clause-dead
 returns-in_err-store_value-clause-dead g c =
     on_err _
-    (subst (λ (n : ℕ). WritesFrontEach (g.M.Mem.seen c.args.mem.now) (g.M.Mem.seen c.store_value.new.mem) (replacing_stores n c.args.key.now c.args.value.now)) c.chunk_at-at.ensures.value
-    (front_replaced (g.M.Mem.seen c.args.mem.now) (g.M.Mem.seen c.store_head.new.mem) (g.M.Mem.seen c.store_value.new.mem) c.chunk_at-at.result c.head_of-head.result c.args.key.now c.args.value.now c.head_of-head.ensures
+    (subst (λ (n : ℕ). WritesPrefixEach (g.M.Mem.seen c.args.mem.now) (g.M.Mem.seen c.store_value.new.mem) (replacing_stores n c.args.key.now c.args.value.now)) c.chunk_at-at.ensures.value
+    (prefix_replaced (g.M.Mem.seen c.args.mem.now) (g.M.Mem.seen c.store_head.new.mem) (g.M.Mem.seen c.store_value.new.mem) c.chunk_at-at.result c.head_of-head.result c.args.key.now c.args.value.now c.head_of-head.ensures
     c.in_ok-store_head.ensures.stored c.in_err-store_value.ensures.dead))
 
-pub returns-clause-goes : goal.returns-clause-goes
-returns-clause-goes g c = goes_on _ _ _ (Ok tt) c.in_ok-store_head.ensures.goes.lives c.in_ok-store_value.ensures.goes
+pub returns-clause-fuse : goal.returns-clause-fuse
+returns-clause-fuse g c = reports_after _ _ _ (Ok tt) c.in_ok-store_head.ensures.fuse.survives c.in_ok-store_value.ensures.fuse
 
 pub returns-clause-replaced : goal.returns-clause-replaced
 returns-clause-replaced g c =

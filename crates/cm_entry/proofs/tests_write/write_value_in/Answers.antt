@@ -1,6 +1,6 @@
 use Rattle.std.proofs.Common.{ap}
 use Rattle.cm_words.specs.Memory.{MemSeen}
-use Rattle.cm_words.proofs.Storing.{may_store_each_free}
+use Rattle.cm_words.proofs.StoreLists.{may_store_each_free}
 use Rattle.cm_entry.proofs.tests_write.write_value_in.Goals as goal
 
 pub write_value-requires-clause-allowed : goal.write_value-requires-clause-allowed

@@ -1,6 +1,6 @@
 use Rattle.std.proofs.Common.{arith, ◌*◌}
-use Rattle.cm_words.proofs.Fits.{reads_on}
-use Rattle.cm_lookup.proofs.Passing.{at_probe, first_is_empty, loaded_more, none_is_empty, some_more}
+use Rattle.cm_words.proofs.FittingLists.{reads_transitive}
+use Rattle.cm_lookup.proofs.SearchLoop.{at_probe, first_is_empty, loaded_more, none_is_empty, some_more}
 use Rattle.cm_lookup.proofs.search.free_slot.Goals as goal
 
 pub returns-then-word-eq0-clause-first : goal.returns-then-word-eq0-clause-first
@@ -11,14 +11,14 @@ returns-then-word-eq0-clause-first g c =
     c.slot_at.ensures.value c.in_ok-word.ensures.word c.if-word-eq0.true (omega arith)
 
 pub returns-then-word-eq0-clause-reads : goal.returns-then-word-eq0-clause-reads
-returns-then-word-eq0-clause-reads g c = reads_on _ _ _ c.loop-steps.invariant.loaded.reads c.in_ok-word.ensures.reads
+returns-then-word-eq0-clause-reads g c = reads_transitive _ _ _ c.loop-steps.invariant.loaded.reads c.in_ok-word.ensures.reads
 
 pub loop-steps-preserved : goal.loop-steps-preserved
 loop-steps-preserved g c = record {
-  rest = g.met.M.Mem.rest_goes_on _ _ _ c.loop-steps.invariant.rest c.in_ok-word.ensures.rest;
+  rest = g.met.M.Mem.rest_transitive _ _ _ c.loop-steps.invariant.rest c.in_ok-word.ensures.rest;
   slots_are = c.loop-steps.invariant.slots_are;
   home_is = c.loop-steps.invariant.home_is;
-  loaded = loaded_more _ (g.M.Mem.seen c.loop-steps.mem) _ c.loop-steps.invariant.loaded c.in_ok-word.ensures.reads c.in_ok-word.ensures.goes.lives;
+  loaded = loaded_more _ (g.M.Mem.seen c.loop-steps.mem) _ c.loop-steps.invariant.loaded c.in_ok-word.ensures.reads c.in_ok-word.ensures.fuse.survives;
   passed = some_more (g.M.Mem.seen c.loop-steps.mem) (g.M.Mem.seen c.load.new.self) c.args.geo.now c.args.place c.args.fingerprint c.loop-steps.steps c.slot_at.result c.in_ok-word.word
       c.loop-steps.invariant.passed c.in_ok-word.ensures.reads
       (rw (at_probe c.args.geo.now c.home_of-home.result (2 * c.chunks-slots.result) c.args.fingerprint c.loop-steps.steps c.loop-steps.invariant.home_is c.loop-steps.invariant.slots_are) at c.slot_at.ensures.value)

@@ -1,15 +1,15 @@
 use Rattle.std.proofs.Common.{arith, ◌*◌}
-use Rattle.cm_words.proofs.Counting.{lives_on, lives_still}
-use Rattle.cm_lookup.proofs.Moving.{at_behind, dead_shifted, goes_by, may_end, may_move, removes_end, removes_round, shifted_begins, shifted_moves, shifted_reads, shifted_stays, stays_by}
+use Rattle.cm_words.proofs.MeterCounts.{survives_transitive, survives_reflexive}
+use Rattle.cm_lookup.proofs.RemovalLoop.{at_behind, dead_shifted, goes_by, may_end, may_move, removes_end, removes_round, shifted_begins, shifted_moves, shifted_reads, shifted_stays, stays_by}
 use Rattle.cm_lookup.proofs.slots.remove_at.Goals as goal
 use Rattle.cm_lookup.proofs.slots.remove_at.Goals.{then-steps-way+in_ok-store-2, else-steps-way}
 
 pub loop-steps-init : goal.loop-steps-init
 loop-steps-init g c = record {
-  rest = g.met.M.Mem.rest_stays _;
+  rest = g.met.M.Mem.rest_reflexive _;
   slots_are = omega arith;
   hole_before = omega arith;
-  lives = lives_still (g.M.Mem.seen c.args.mem.now).meter;
+  survives = survives_reflexive (g.M.Mem.seen c.args.mem.now).meter;
   shifted = shifted_begins (g.M.Mem.seen c.args.mem.now) c.args.geo.now c.args.place c.args.slot;
 }
 
@@ -63,10 +63,10 @@ returns-in_err-store-2-clause-dead g c = dead_shifted _ (g.M.Mem.seen c.args.mem
 pub loop-steps-preserved : goal.loop-steps-preserved
 loop-steps-preserved g c = elim c.if-steps-way.branch [
   | then-steps-way+in_ok-store-2 w ↦ record {
-    rest = rw w.mem-is (g.met.M.Mem.rest_goes_on _ _ _ (g.met.M.Mem.rest_goes_on _ _ _ c.loop-steps.invariant.rest c.in_ok-word.ensures.rest) w.in_ok-store-2.ensures.rest);
+    rest = rw w.mem-is (g.met.M.Mem.rest_transitive _ _ _ (g.met.M.Mem.rest_transitive _ _ _ c.loop-steps.invariant.rest c.in_ok-word.ensures.rest) w.in_ok-store-2.ensures.rest);
     slots_are = c.loop-steps.invariant.slots_are;
     hole_before = omega arith;
-    lives = rw w.mem-is (lives_on _ (g.M.Mem.seen c.load.new.self).meter _ (lives_on _ (g.M.Mem.seen c.loop-steps.mem).meter _ c.loop-steps.invariant.lives c.in_ok-word.ensures.goes.lives) w.in_ok-store-2.ensures.goes.lives);
+    survives = rw w.mem-is (survives_transitive _ (g.M.Mem.seen c.load.new.self).meter _ (survives_transitive _ (g.M.Mem.seen c.loop-steps.mem).meter _ c.loop-steps.invariant.survives c.in_ok-word.ensures.fuse.survives) w.in_ok-store-2.ensures.fuse.survives);
     shifted = rw (w.mem-is, w.hole-is)
         (shifted_moves (g.M.Mem.seen c.args.mem.now) (g.M.Mem.seen c.load.new.self) (g.M.Mem.seen w.store-then-steps-way.new.self) c.args.geo.now c.args.place c.args.slot c.loop-steps.hole c.loop-steps.steps c.slot_at.result w.slot_at-then-steps-way.result c.in_ok-word.word
         (record { geo_is = c.requires.geo; place_inside = c.requires.place; slot_inside = c.requires.slot })
@@ -79,10 +79,10 @@ loop-steps-preserved g c = elim c.if-steps-way.branch [
         w.in_ok-store-2.ensures.writes);
   }
   | else-steps-way w ↦ record {
-    rest = rw w.mem-is (g.met.M.Mem.rest_goes_on _ _ _ c.loop-steps.invariant.rest c.in_ok-word.ensures.rest);
+    rest = rw w.mem-is (g.met.M.Mem.rest_transitive _ _ _ c.loop-steps.invariant.rest c.in_ok-word.ensures.rest);
     slots_are = c.loop-steps.invariant.slots_are;
     hole_before = omega arith;
-    lives = rw w.mem-is (lives_on _ (g.M.Mem.seen c.loop-steps.mem).meter _ c.loop-steps.invariant.lives c.in_ok-word.ensures.goes.lives);
+    survives = rw w.mem-is (survives_transitive _ (g.M.Mem.seen c.loop-steps.mem).meter _ c.loop-steps.invariant.survives c.in_ok-word.ensures.fuse.survives);
     shifted = rw (w.mem-is, w.hole-is)
         (shifted_stays (g.M.Mem.seen c.args.mem.now) (g.M.Mem.seen c.load.new.self) c.args.geo.now c.args.place c.args.slot c.loop-steps.hole c.loop-steps.steps c.slot_at.result c.in_ok-word.word
         (record { geo_is = c.requires.geo; place_inside = c.requires.place; slot_inside = c.requires.slot })

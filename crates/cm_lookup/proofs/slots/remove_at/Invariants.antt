@@ -1,5 +1,5 @@
 use Rattle.std.proofs.Common.{◌≡◌, ◌*◌, ◌<◌}
-use Rattle.cm_words.specs.Meters.{Lives}
+use Rattle.cm_words.specs.Meters.{Survives}
 use Rattle.cm_lookup.specs.Removals.{Shifted}
 use Rattle.cm_lookup.proofs.slots.remove_at.Given as goal
 
@@ -8,6 +8,6 @@ invariant-loop-steps g l = record {
   rest : g.M.Mem.same_rest l.initial.mem l.mem;
   slots_are : l.slots ≡ 2 * l.geo.chunks;
   hole_before : l.hole < l.steps;
-  lives : Lives (g.M.Mem.seen l.initial.mem).meter (g.M.Mem.seen l.mem).meter;
+  survives : Survives (g.M.Mem.seen l.initial.mem).meter (g.M.Mem.seen l.mem).meter;
   shifted : Shifted (g.M.Mem.seen l.initial.mem) (g.M.Mem.seen l.mem) l.geo l.place l.slot l.hole l.steps;
 }

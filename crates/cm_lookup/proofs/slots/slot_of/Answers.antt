@@ -1,6 +1,6 @@
 use Rattle.std.proofs.Common.{arith, refl}
 use Rattle.std.proofs.lemmas.Grind.{common_steps}
-use Rattle.cm_lookup.proofs.Passing.{told_word}
+use Rattle.cm_lookup.proofs.SearchLoop.{told_word}
 use Rattle.cm_lookup.proofs.slots.slot_of.Goals as goal
 
 pub returns-clause-parts : goal.returns-clause-parts

@@ -6,5 +6,5 @@ use Rattle.cm_plain.proofs.entries.run_start.Goals as goal
 
 pub overflow_add-result : goal.overflow_add-result
 overflow_add-result c =
-    let few : c.from.result ≤ 4096 = omega (arith, (chunks_range c.args.geo.now).1) in
-    omega (arith, mul-le-mul_left c.from-place.result few)
+    let within_limit : c.from.result ≤ 4096 = omega (arith, (chunks_range c.args.geo.now).1) in
+    omega (arith, mul-le-mul_left c.from-place.result within_limit)

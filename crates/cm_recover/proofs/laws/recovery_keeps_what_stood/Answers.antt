@@ -1,8 +1,8 @@
 -- What recovery keeps of any words, of torn and of lawful ones, by the lemmas on each.
-use Rattle.cm_recover.proofs.Again.{stays_recovered}
+use Rattle.cm_recover.proofs.SecondRecovery.{stays_recovered}
 use Rattle.cm_recover.proofs.AnyEntries.{any_state}
-use Rattle.cm_recover.proofs.Ending.{torn_ends}
-use Rattle.cm_recover.proofs.Lawfully.{lawful_stays}
+use Rattle.cm_recover.proofs.TornOutcome.{torn_ends}
+use Rattle.cm_recover.proofs.LawfulWords.{lawful_stays}
 use Rattle.cm_recover.proofs.laws.recovery_keeps_what_stood.Goals as goal
 
 pub returns-clause-states : goal.returns-clause-states

@@ -21,5 +21,5 @@ returns-in-len2-clause-err c = let here = c.op_of_three.ensures.err c.args.lists
 pub returns-in_default-clause-err : goal.returns-in_default-clause-err
 returns-in_default-clause-err c cause same =
     let later = map (λ (f : Bor (List ℕ)). f.now) c.args.later.now in
-    let many : 3 ≤ length later = simp length-map (omega arith) in
-    cc (no_op c.args.geo.now c.args.lists c.args.verb c.args.first.now later many, same)
+    let length_is : 3 ≤ length later = simp length-map (omega arith) in
+    cc (no_op c.args.geo.now c.args.lists c.args.verb c.args.first.now later length_is, same)

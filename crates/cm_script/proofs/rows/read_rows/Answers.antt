@@ -8,7 +8,7 @@ use Rattle.csv.specs.Reading.{Reached, default_config, strip_bom}
 use Rattle.csv.specs.Records.{fields_of}
 use Rattle.csv.specs.declared.parser.State.TheVariants as st
 use Rattle.csv.proofs.ReadFacts.{rows-end, rows-more}
-use Rattle.cm_script.proofs.AllRecords.{all-records, reached-few}
+use Rattle.cm_script.proofs.AllRecords.{all-records, reached-within_limit}
 use Rattle.cm_script.proofs.rows.read_rows.Goals as goal
 
 pub loop-row-init : goal.loop-row-init
@@ -20,7 +20,7 @@ loop-row-init c =
     let rdr = c.into_byte_records-row-items.ensures.rdr in
     let left = c.into_byte_records-row-items.ensures.left in
     rw (start, rdr, c.new-rows.ensures.items) (record {
-      few = omega arith;
+      within_limit = omega arith;
       untrimmed = rw (e) at fr.trim ∙ c.new.ensures.trim;
       ready = inr (inr (rw e at fr.has_headers, fr.headers));
       turns = left;
@@ -38,7 +38,7 @@ loop-row-preserved c =
     let items = rw good at c.push.ensures.items in
     let more = rows-more (λ (s : Bor (List ℕ)). Some s.now) c.loop-row.row-iterator.rdr c.next.new.self.rdr (fields_of c.in-Ok.row) default_config st.StartRecord (strip_bom c.args.text.now) inv.left (map fields_of c.loop-row.rows.items) inv.config inv.source inv.reached step.0 in
     record {
-      few = omega arith;
+      within_limit = omega arith;
       untrimmed = step.0.3 ∙ inv.untrimmed;
       ready = inl step.1;
       turns = step.2;
@@ -56,10 +56,10 @@ returns-then-len-eq-MOST_LINES-clause-too_long c _ =
     let row = fields_of c.in-Ok.row in
     let more = rows-more (λ (s : Bor (List ℕ)). Some s.now) c.loop-row.row-iterator.rdr c.next.new.self.rdr row default_config st.StartRecord (strip_bom c.args.text.now) inv.left rows inv.config inv.source inv.reached step.0 in
     let text = strip_bom c.args.text.now in
-    let few = reached-few (length text + 1) st.StartRecord text (rows ++ row ∷ []) c.next.new.self.rdr.state more.0 refl (omega arith) more.2 in
+    let within_limit = reached-within_limit (length text + 1) st.StartRecord text (rows ++ row ∷ []) c.next.new.self.rdr.state more.0 refl (omega arith) more.2 in
     let ok = c.loop-row.rows.ok in
-    let many : length rows ≡ 65536 = simp length-map (omega arith) in
-    let last = simp length-append at few in
+    let length_is : length rows ≡ 65536 = simp length-map (omega arith) in
+    let last = simp length-append at within_limit in
     omega arith
 
 pub returns-clause-all : goal.returns-clause-all
@@ -70,5 +70,5 @@ returns-clause-all c =
     let text = strip_bom c.args.text.now in
     all-records (length text + 1) st.StartRecord text (map fields_of c.loop-row.rows.items) c.loop-row.row-iterator.rdr.state inv.left refl (omega arith) inv.reached end
 
-pub returns-clause-few : goal.returns-clause-few
-returns-clause-few c = c.loop-row.invariant.few
+pub returns-clause-within_limit : goal.returns-clause-within_limit
+returns-clause-within_limit c = c.loop-row.invariant.within_limit

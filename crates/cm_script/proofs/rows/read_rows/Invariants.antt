@@ -8,7 +8,7 @@ use Rattle.cm_script.proofs.rows.read_rows.Given as goal
 
 abbrev pub invariant-loop-row : goal.invariant-loop-row
 invariant-loop-row l = record {
-  few : vec_len l.rows ≤ 65536;
+  within_limit : vec_len l.rows ≤ 65536;
   untrimmed : l.row-iterator.rdr.trim ≡ trim.None;
   ready : Ready l.row-iterator.rdr;
   turns : 0 < l.row-iterator.left;

@@ -3,7 +3,7 @@ use Rattle.std.proofs.Common.{◌≡◌, ◌∙◌, not, sym, ap, arith, length,
 use Rattle.cm_plain.specs.Rooms.{is_unlinked}
 use Rattle.cm_plain.proofs.Ranges.{position_here, position_next}
 use Rattle.cm_tiers.specs.Chains.{places_of}
-use Rattle.cm_tiers.proofs.Few.{all_linked, some_left}
+use Rattle.cm_tiers.proofs.ChainLength.{all_linked, some_left}
 use Rattle.cm_tiers.proofs.places.lowest_unlinked.Goals as goal
 
 pub returns-then-not-contains-clause-lowest : goal.returns-then-not-contains-clause-lowest
@@ -17,7 +17,7 @@ pub returns-then-not-contains-clause-none : goal.returns-then-not-contains-claus
 returns-then-not-contains-clause-none c =
     let passes : is_unlinked (places_of c.args.chain.now) c.loop-place.place-counter ≡ true = ap not (sym c.contains.ensures.value ∙ c.if-not-contains.true) in
     let long : length c.args.chain.now.places ≡ 8 = omega arith in
-    some_left c.args.geo.now c.args.chain.now c.loop-place.place-counter c.requires.few long c.requires.inside c.requires.apart (record { below = omega arith; unlinked = passes })
+    some_left c.args.geo.now c.args.chain.now c.loop-place.place-counter c.requires.within_limit long c.requires.inside c.requires.apart (record { below = omega arith; unlinked = passes })
 
 pub loop-place-preserved : goal.loop-place-preserved
 loop-place-preserved c =
@@ -29,5 +29,5 @@ loop-place-preserved c =
 pub returns-clause-none : goal.returns-clause-none
 returns-clause-none c =
     let long : length c.args.chain.now.places ≡ 8 = omega arith in
-    let all = all_linked c.args.geo.now c.args.chain.now c.loop-place.place-counter c.requires.few long (omega arith) c.loop-place.invariant in
-    (λ _. omega (arith, all, c.requires.few), λ _. refl)
+    let all = all_linked c.args.geo.now c.args.chain.now c.loop-place.place-counter c.requires.within_limit long (omega arith) c.loop-place.invariant in
+    (λ _. omega (arith, all, c.requires.within_limit), λ _. refl)

@@ -1,4 +1,4 @@
-use Rattle.cm_words.proofs.Telling.{its_words, under_once}
+use Rattle.cm_words.proofs.OneMemoryState.{its_words, under_once}
 use Rattle.cm_words.proofs.laws.a_memory_tells_one_state.Goals as goal
 
 pub returns-clause-once : goal.returns-clause-once

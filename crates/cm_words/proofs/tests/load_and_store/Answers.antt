@@ -1,6 +1,6 @@
 use Rattle.std.proofs.Common.{rules, ◌∙◌, ℕ, List, [], ◌∷◌}
-use Rattle.cm_words.proofs.Fits.{reads_writes, writes_reads}
-use Rattle.cm_words.proofs.Telling.{lender_has}
+use Rattle.cm_words.proofs.FittingLists.{reads_writes, writes_reads}
+use Rattle.cm_words.proofs.OneMemoryState.{lender_has}
 use Rattle.cm_words.proofs.tests.load_and_store.Goals as goal
 
 pub returns-clause-stored : goal.returns-clause-stored

@@ -5,14 +5,14 @@ use Rattle.cm_plain.specs.declared.op.Op.TheVariants.{Sweep}
 use Rattle.cm_plain.specs.Segments.{Answered, Sweeps}
 use Rattle.cm_plain.proofs.Counted.{few_entries}
 use Rattle.cm_plain.proofs.Taking.{remove_answered, remove_if_answered}
-use Rattle.cm_plain.proofs.Seen.{seen_in}
+use Rattle.cm_plain.proofs.SegmentState.{seen_in}
 use Rattle.cm_plain.proofs.segment.PlainSegment.answer.Goals as goal
 
 pub overflow_cast-result : goal.overflow_cast-result
 overflow_cast-result c =
     let seen = seen_in c.self.inside in
-    let few : length c.as_slice-entries.result.now < 2 ^ 32 = rw c.as_slice-entries.ensures.value (few_entries seen.geo seen.segment seen.state c.self.invariant.rests) in
-    omega (arith, few)
+    let within_limit : length c.as_slice-entries.result.now < 2 ^ 32 = rw c.as_slice-entries.ensures.value (few_entries seen.geo seen.segment seen.state c.self.invariant.rests) in
+    omega (arith, within_limit)
 
 pub listed-requires : goal.listed-requires
 listed-requires c =

@@ -7,7 +7,7 @@ use Rattle.cm_plain.specs.Steps.{last_number}
 use Rattle.cm_plain.specs.Segments.{IsSegment, Places, Segment}
 use Rattle.cm_plain.proofs.Placing.{rising_without}
 use Rattle.cm_plain.proofs.Stepping.{is_segment_with, placing_apart, places_with, reply_beside, same_segment, segment_with}
-use Rattle.cm_plain.proofs.Seen.{seen_in}
+use Rattle.cm_plain.proofs.SegmentState.{seen_in}
 use Rattle.cm_plain.proofs.segment.PlainSegment.place.Goals as goal
 use Rattle.cm_plain.proofs.segment.PlainSegment.place.Goals.{else-links-via-then-links+else-not-grant, else-links-via-else-links, then-placing, else-placing}
 

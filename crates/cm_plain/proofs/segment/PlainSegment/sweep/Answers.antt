@@ -5,7 +5,7 @@ use Rattle.cm_plain.specs.declared.reply.Reply.TheVariants as reply
 use Rattle.cm_plain.specs.Steps.{has_prefix}
 use Rattle.cm_plain.specs.Segments.{IsLeastKey}
 use Rattle.cm_plain.proofs.Sweeping.{sweeps_none, sweeps_one}
-use Rattle.cm_plain.proofs.Seen.{seen_in}
+use Rattle.cm_plain.proofs.SegmentState.{seen_in}
 use Rattle.cm_plain.proofs.segment.PlainSegment.sweep.Goals as goal
 use Rattle.cm_plain.proofs.segment.PlainSegment.sweep.Goals.{then-take, else-take}
 

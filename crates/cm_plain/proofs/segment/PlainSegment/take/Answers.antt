@@ -3,7 +3,7 @@ use Rattle.std.proofs.Common.{◌≡◌, ◌==◌, false, sym, arith}
 use Rattle.std.proofs.lemmas.Bool.Decides.{nat_tests}
 use Rattle.cm_plain.specs.Steps.{last_number}
 use Rattle.cm_plain.proofs.Taking.{is_segment_without, takes_without}
-use Rattle.cm_plain.proofs.Seen.{seen_in}
+use Rattle.cm_plain.proofs.SegmentState.{seen_in}
 use Rattle.cm_plain.proofs.segment.PlainSegment.take.Goals as goal
 
 pub invariant_of-self : goal.invariant_of-self

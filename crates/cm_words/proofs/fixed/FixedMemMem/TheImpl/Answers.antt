@@ -1,6 +1,6 @@
 -- What the trait asks of those who store can't hold here, since this memory is never `Writable`.
 use Rattle.std.proofs.Common.{◌≡◌}
-use Rattle.cm_words.specs.declared.standing.Standing.TheVariants.{Readable, Writable}
+use Rattle.cm_words.specs.declared.access.Access.TheVariants.{Readable, Writable}
 use Rattle.cm_words.proofs.fixed.FixedMemMem.TheImpl.Goals as goal
 
 never_writable : Readable ≡ Writable → ⊥

@@ -1,8 +1,8 @@
 use Rattle.std.proofs.Common.{◌≡◌, false, true, refl}
 use Rattle.cm_words.specs.Fixed.{fixed_seen}
-use Rattle.cm_words.proofs.Fits.{as_before, on_err, reads_load, reads_same, tells_number}
-use Rattle.cm_words.proofs.Places.{number_inside}
-use Rattle.cm_words.proofs.Plainly.{notes_loaded}
+use Rattle.cm_words.proofs.FittingLists.{as_before, on_err, reads_load, reads_same, knows_number}
+use Rattle.cm_words.proofs.MapPlaces.{number_inside}
+use Rattle.cm_words.proofs.PlainNotes.{notes_loaded}
 use Rattle.cm_words.proofs.fixed.FixedMemMem.number.Goals as goal
 
 pub returns-in_err-ask-clause-reads : goal.returns-in_err-ask-clause-reads
@@ -28,5 +28,5 @@ pub returns-clause-number : goal.returns-clause-number
 returns-clause-number c =
     let m = c.args.self.now in
     let inside = number_inside m.words.now.geo in
-    rw (c.get.ensures, c.place-place.ensures.value) (tells_number (fixed_seen m) _ _ inside
+    rw (c.get.ensures, c.place-place.ensures.value) (knows_number (fixed_seen m) _ _ inside
     (notes_loaded _ _ m.words.now.geo m.start 1 m.words.now.words m.words.now.words inside (λ k. refl) (λ k. refl)) (λ guarded. absurd (not_guarded guarded)))

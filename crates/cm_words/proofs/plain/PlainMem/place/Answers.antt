@@ -1,5 +1,5 @@
 use Rattle.std.proofs.Common.{arith}
-use Rattle.cm_words.proofs.Places.{place_inside}
+use Rattle.cm_words.proofs.MapPlaces.{place_inside}
 use Rattle.cm_words.proofs.plain.PlainMem.place.Goals as goal
 
 pub overflow_add-result : goal.overflow_add-result

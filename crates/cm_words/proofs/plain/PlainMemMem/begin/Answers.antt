@@ -1,9 +1,9 @@
 use Rattle.std.proofs.Common.{◌≡◌, ◌+◌, ◌%◌, Fits, w64, ◌<◌, ◌^◌, ◌∙◌, Some, true, false, length, length-set, get_or, get_or-set_same, arith, refl, ap, ℕ}
 use Rattle.std.proofs.lemmas.List.Elements.{All-set}
-use Rattle.cm_words.proofs.Fits.{as_before, begins_by, on_err}
-use Rattle.cm_words.proofs.Places.{number_inside, place_inside}
-use Rattle.cm_words.proofs.Plainly.{notes_begun}
-use Rattle.cm_words.proofs.Telling.{plain_even}
+use Rattle.cm_words.proofs.FittingLists.{as_before, begins_by, on_err}
+use Rattle.cm_words.proofs.MapPlaces.{number_inside, place_inside}
+use Rattle.cm_words.proofs.PlainNotes.{notes_begun}
+use Rattle.cm_words.proofs.OneMemoryState.{plain_even}
 use Rattle.cm_words.proofs.plain.PlainMemMem.begin.Goals as goal
 
 pub returns-in_err-ask-clause-dead : goal.returns-in_err-ask-clause-dead
@@ -11,7 +11,7 @@ returns-in_err-ask-clause-dead g c =
     on_err c.from_residual.result (as_before _ _ (record { setting = refl; plan = refl }) (λ k. refl) c.in_err-ask.ensures.dead_events c.in_err-ask.ensures.dead_stores)
 
 fits_next : (word : ℕ) → word < 2 ^ 63 → Fits w64 (word + 1)
-fits_next word few = omega arith
+fits_next word not_last = omega arith
 
 pub overflow_add-even : goal.overflow_add-even
 overflow_add-even g c =
@@ -19,7 +19,7 @@ overflow_add-even g c =
     rw (c.get-even.ensures, c.place-place.ensures.value) (fits_next _ even.1)
 
 odd_next : (word : ℕ) → word % 2 ≡ 0 → word < 2 ^ 63 → ((word + 1) % 2 ≡ 1) × (word + 1 < 2 ^ 63)
-odd_next word even few = (omega arith, omega arith)
+odd_next word even not_last = (omega arith, omega arith)
 
 not_none : true ≡ false → ⊥
 not_none e = cc e

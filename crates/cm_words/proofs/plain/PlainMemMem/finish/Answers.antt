@@ -1,8 +1,8 @@
 use Rattle.std.proofs.Common.{◌≡◌, ℕ, ◌+◌, ◌*◌, ◌/◌, ◌%◌, ◌<◌, ◌^◌, ◌∙◌, true, false, length, length-set, get_or, get_or-set_same, arith, refl}
 use Rattle.std.proofs.lemmas.List.Elements.{All-set}
-use Rattle.cm_words.proofs.Fits.{as_before, finishes_by, on_err}
-use Rattle.cm_words.proofs.Places.{number_inside, place_inside, rest_stored}
-use Rattle.cm_words.proofs.Plainly.{notes_finished, some_plan}
+use Rattle.cm_words.proofs.FittingLists.{as_before, finishes_by, on_err}
+use Rattle.cm_words.proofs.MapPlaces.{number_inside, place_inside, rest_stored}
+use Rattle.cm_words.proofs.PlainNotes.{notes_finished, some_plan}
 use Rattle.cm_words.proofs.plain.PlainMemMem.finish.Goals as goal
 
 pub returns-in_err-ask-clause-dead : goal.returns-in_err-ask-clause-dead

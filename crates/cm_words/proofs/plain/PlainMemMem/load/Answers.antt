@@ -1,7 +1,7 @@
 use Rattle.std.proofs.Common.{refl}
 use Rattle.cm_words.specs.Plain.{plain_seen}
-use Rattle.cm_words.proofs.Fits.{as_before, on_err, reads_load, reads_same, tells_load}
-use Rattle.cm_words.proofs.Plainly.{notes_loaded}
+use Rattle.cm_words.proofs.FittingLists.{as_before, on_err, reads_load, reads_same, knows_load}
+use Rattle.cm_words.proofs.PlainNotes.{notes_loaded}
 use Rattle.cm_words.proofs.plain.PlainMemMem.load.Goals as goal
 
 pub returns-in_err-ask-clause-reads : goal.returns-in_err-ask-clause-reads
@@ -20,5 +20,5 @@ returns-clause-reads g c =
 pub returns-clause-word : goal.returns-clause-word
 returns-clause-word g c =
     let m = c.args.self.now in
-    rw (c.get.ensures, c.place-place.ensures.value) (tells_load (plain_seen g.F.Fuse.fused m) _ c.args.at _ c.requires.in_range
+    rw (c.get.ensures, c.place-place.ensures.value) (knows_load (plain_seen g.F.Fuse.fused m) _ c.args.at _ c.requires.in_range
     (notes_loaded _ _ m.words.now.geo m.start c.args.at m.words.now.words m.first.value.words c.requires.in_range (λ k. refl) (λ k. refl)))

@@ -1,8 +1,8 @@
 use Rattle.std.proofs.Common.{refl}
 use Rattle.cm_words.specs.Plain.{plain_seen}
-use Rattle.cm_words.proofs.Fits.{as_before, on_err, reads_load, reads_same, tells_number}
-use Rattle.cm_words.proofs.Places.{number_inside}
-use Rattle.cm_words.proofs.Plainly.{no_plan, notes_loaded}
+use Rattle.cm_words.proofs.FittingLists.{as_before, on_err, reads_load, reads_same, knows_number}
+use Rattle.cm_words.proofs.MapPlaces.{number_inside}
+use Rattle.cm_words.proofs.PlainNotes.{no_plan, notes_loaded}
 use Rattle.cm_words.proofs.plain.PlainMemMem.number.Goals as goal
 
 pub returns-in_err-ask-clause-reads : goal.returns-in_err-ask-clause-reads
@@ -25,5 +25,5 @@ pub returns-clause-number : goal.returns-clause-number
 returns-clause-number g c =
     let m = c.args.self.now in
     let inside = number_inside m.words.now.geo in
-    rw (c.get.ensures, c.place-place.ensures.value) (tells_number (plain_seen g.F.Fuse.fused m) _ _ inside
+    rw (c.get.ensures, c.place-place.ensures.value) (knows_number (plain_seen g.F.Fuse.fused m) _ _ inside
     (notes_loaded _ _ m.words.now.geo m.start 1 m.words.now.words m.first.value.words inside (λ k. refl) (λ k. refl)) (λ guarded. m.even guarded (no_plan m.plan c.requires.idle)))

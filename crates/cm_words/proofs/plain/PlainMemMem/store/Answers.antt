@@ -1,9 +1,9 @@
 use Rattle.std.proofs.Common.{◌≢◌, ◌+◌, ◌<◌, ◌^◌, ◌∙◌, length, length-set, get_or-set_other, arith, refl}
 use Rattle.std.proofs.lemmas.List.Elements.{All-set}
 use Rattle.cm_words.specs.Plain.{plain_seen}
-use Rattle.cm_words.proofs.Fits.{as_before, on_err, tells_store, writes_store}
-use Rattle.cm_words.proofs.Places.{place_inside}
-use Rattle.cm_words.proofs.Plainly.{notes_stored}
+use Rattle.cm_words.proofs.FittingLists.{as_before, on_err, knows_store, writes_store}
+use Rattle.cm_words.proofs.MapPlaces.{place_inside}
+use Rattle.cm_words.proofs.PlainNotes.{notes_stored}
 use Rattle.cm_words.proofs.plain.PlainMemMem.store.Goals as goal
 
 pub returns-in_err-ask-clause-dead : goal.returns-in_err-ask-clause-dead
@@ -37,5 +37,5 @@ returns-clause-word g c =
     let m = c.args.self.now in
     let inside = (place_inside m.words.now.geo m.segment m.start c.args.at m.here m.starts c.requires.in_range).0 in
     let within : m.start + c.args.at < length m.words.now.words = rw m.whole inside in
-    rw (c.set.ensures, c.place-place.ensures.value) (tells_store (plain_seen g.F.Fuse.fused m) _ c.args.at c.args.word _ c.requires.in_range
+    rw (c.set.ensures, c.place-place.ensures.value) (knows_store (plain_seen g.F.Fuse.fused m) _ c.args.at c.args.word _ c.requires.in_range
     (notes_stored _ _ m.words.now.geo m.start c.args.at c.args.word m.words.now.words m.first.value.words c.requires.in_range within (m.fit (m.start + c.args.at) 0 within) (λ k. refl) (λ k. refl)))
