@@ -1,5 +1,5 @@
 -- Which lists fit the notes after a call, and where they came from.
-use Rattle.std.proofs.Common.{◌≡◌, ◌≢◌, ℕ, ◌+◌, ◌*◌, ◌/◌, ◌%◌, ◌<◌, ◌^◌, Some, None, Option, List, [], ◌∷◌, length, get_or, set, slice_set, arith, refl, ap, sym, ◌∙◌, subst, get_or-set_other, get_or-set_same, IsSome, true, false, length-set, ◌++◌, inl, inr, Ok, Err, OnErr}
+use Rattle.std.proofs.Common.{◌≡◌, ◌≢◌, ℕ, ◌+◌, ◌*◌, ◌/◌, ◌%◌, ◌<◌, ◌≤◌, ◌^◌, Some, None, Option, List, [], ◌∷◌, length, get_or, set, slice_set, arith, refl, ap, sym, ◌∙◌, subst, get_or-set_other, get_or-set_same, IsSome, true, false, length-set, ◌++◌, inl, inr, Ok, Err, OnErr}
 use Rattle.std.specs.declared.result.Result.{Result}
 use Rattle.std.proofs.lemmas.Bool.{cases_eq}
 use Rattle.std.proofs.lemmas.List.{set-set, set-get_or}
@@ -8,12 +8,13 @@ use Rattle.std.proofs.lemmas.List.FromFn.{fill_by_all, length-map-range_with_len
 use Rattle.cm_geo.specs.Addresses.{words_in_segment}
 use Rattle.cm_plain.specs.Changes.{Change}
 use Rattle.cm_plain.specs.Lawful.{IsSegmentWords}
-use Rattle.cm_words.specs.Memory.{FitsNotes, IsAllowed, MayStore, MemSeen, Note, Setting, first_or, origin}
-use Rattle.cm_words.specs.Effects.{AllowsAll, Begins, CameByNumber, Finishes, IsAsBefore, Keeps, MayStoreAll, Reads, StaysNoted, Knows, KnowsNumber, Writes, WritesPrefix, after_stores}
+use Rattle.cm_words.specs.Memory.{FitsNotes, MemSeen, Note, Setting, first_or, origin}
+use Rattle.cm_words.specs.Effects.{Begins, CameByNumber, Finishes, IsAsBefore, Keeps, Knows, KnowsNumber, Reads, StaysNoted}
+use Rattle.cm_words.specs.Stores.{Writes, store_at}
 use Rattle.cm_words.proofs.Notes.{NotesBegin, NotesFinish, NotesLoad, NotesStore, rebased}
 
 -- two lists of words with the same first words have one origin
-origin_by : (a b : MemSeen) (xs ys : List ℕ) → length xs ≡ length ys → ((k : ℕ) → k < length xs → first_or (a.noted k) (get_or xs k 0) ≡ first_or (b.noted k) (get_or ys k 0)) → origin a xs ≡ origin b ys
+pub origin_by : (a b : MemSeen) (xs ys : List ℕ) → length xs ≡ length ys → ((k : ℕ) → k < length xs → first_or (a.noted k) (get_or xs k 0) ≡ first_or (b.noted k) (get_or ys k 0)) → origin a xs ≡ origin b ys
 unfolding origin
 origin_by a b xs ys long same =
     rw (← long) (fill_by_all _ _ (length xs) 0 (length-map-range_with_len _ 0 (length xs))
@@ -59,12 +60,13 @@ noted_loaded old now at word notes k h = elim (cases_eq k at) [
   | inr ne ↦ rw (notes.others k ne) h
 ]
 
-pub reads_load : (old now : MemSeen) (at word : ℕ) → at < words_in_segment now.setting.geo → Keeps old now → NotesLoad old now at word → Reads old now
-reads_load old now at word in_range kept notes = record {
+pub reads_load : (old now : MemSeen) (at word : ℕ) → at < words_in_segment now.setting.geo → Keeps old now → NotesLoad old now at word → now.meter.stores ≡ old.meter.stores → Reads old now
+reads_load old now at word in_range kept notes no_store = record {
   kept = kept;
   fits = fits_loaded old now at word in_range kept notes;
   origin = λ words fits. origin_by now old words words refl (λ k h. first_loaded old now at word notes words (loaded_here old now at word in_range notes words fits) k);
   noted = noted_loaded old now at word notes;
+  no_store = no_store;
 }
 
 pub knows_load : (old now : MemSeen) (at word : ℕ) → at < words_in_segment now.setting.geo → NotesLoad old now at word → Knows now at word
@@ -74,28 +76,34 @@ knows_load old now at word in_range notes = record {
 }
 
 -- a load of the change number
-pub knows_number : (old now : MemSeen) (word : ℕ) → 1 < words_in_segment now.setting.geo → NotesLoad old now 1 word → (now.setting.guarded ≡ true → word % 2 ≡ 0) → KnowsNumber now (word / 2)
-knows_number old now word in_range notes even = record {
+pub knows_number : (old now : MemSeen) (word : ℕ) → 1 < words_in_segment now.setting.geo → NotesLoad old now 1 word → (now.setting.guarded ≡ true → word % 2 ≡ 0) → (now.setting.shared ≡ true → word ≤ 2 ^ 63)
+    → KnowsNumber now (word / 2)
+knows_number old now word in_range notes even within_limit = record {
   word = word;
   knows = knows_load old now 1 word in_range notes;
   half = refl;
   even = λ guarded. twice word (even guarded);
+  within_limit = λ shared. half_within word (within_limit shared);
 }
   where
     twice : (word : ℕ) → word % 2 ≡ 0 → word ≡ 2 * (word / 2)
     twice word e = omega arith
 
+    half_within : (word : ℕ) → word ≤ 2 ^ 63 → word / 2 ≤ 2 ^ 62
+    half_within word h = omega arith
+
 -- the same notes
-pub reads_same : (old now : MemSeen) → Keeps old now → ((at : ℕ) → now.noted at ≡ old.noted at) → Reads old now
-reads_same old now kept same = record {
+pub reads_same : (old now : MemSeen) → Keeps old now → ((at : ℕ) → now.noted at ≡ old.noted at) → now.meter.stores ≡ old.meter.stores → Reads old now
+reads_same old now kept same no_store = record {
   kept = kept;
   fits = λ words fits. record { are = are_in old now words kept.setting fits.are; present = λ k note h e. fits.present k note h (same k ∙ e) };
   origin = λ words fits. origin_by now old words words refl (λ k h. ap (λ n. first_or n (get_or words k 0)) (same k));
   noted = λ k h. rw (same k) h;
+  no_store = no_store;
 }
 
 pub as_before : (old now : MemSeen) → Keeps old now → ((at : ℕ) → now.noted at ≡ old.noted at) → now.meter.events ≡ old.meter.events → now.meter.stores ≡ old.meter.stores → IsAsBefore old now
-as_before old now kept same events stores = record { reads = reads_same old now kept same; notes = same; events = events; stores = stores }
+as_before old now kept same events stores = record { reads = reads_same old now kept same stores; notes = same; events = events }
 
 -- what holds in any case holds of an error
 pub on_err : {T E P : Type 0} (result : Result T E) → P → OnErr result P
@@ -109,14 +117,16 @@ reads_transitive a b c p q = record {
   fits = λ words fits. p.fits words (q.fits words fits);
   origin = λ words fits. q.origin words fits ∙ p.origin words (q.fits words fits);
   noted = λ k h. q.noted k (p.noted k h);
+  no_store = q.no_store ∙ p.no_store;
 }
 
 pub reads_reflexive : (m : MemSeen) → Reads m m
-reads_reflexive m = reads_same m m (record { setting = refl; plan = refl }) (λ k. refl)
+reads_reflexive m = reads_same m m (record { setting = refl; plan = refl }) (λ k. refl) refl
 
 -- a store
-pub writes_store : (old now : MemSeen) (at word found : ℕ) → at < words_in_segment now.setting.geo → Keeps old now → NotesStore old now at word found → Writes old now ((at, word) ∷ [])
-writes_store old now at word found in_range kept notes = record {
+pub writes_store : (old now : MemSeen) (at word found : ℕ) → at < words_in_segment now.setting.geo → Keeps old now → NotesStore old now at word found → now.meter.stores ≡ old.meter.stores + 1
+    → Writes old now (store_at at word ∷ [])
+writes_store old now at word found in_range kept notes counted = record {
   kept = kept;
   came = λ words fits.
       let inside : at < length words = rw fits.are.length_is in_range in
@@ -130,7 +140,7 @@ writes_store old now at word found in_range kept notes = record {
               | inr ne ↦ rw get_or-set_other (fits.present k note (rw (← length-set words at found) h) (notes.others k ne ∙ e))
             ];
           };
-          leads = set-set words at found word ∙ (ap (λ w. set words at w) (sym here) ∙ set-get_or words at 0);
+          relates = record { leads = set-set words at found word ∙ (ap (λ w. set words at w) (sym here) ∙ set-get_or words at 0); counted = counted };
           origin = origin_by now old words (slice_set words at found) (sym (length-set words at found)) (λ k h. elim (cases_eq k at) [
             | inl same ↦ rw (same, notes.here, get_or-set_same) refl
             | inr ne ↦ rw get_or-set_other (ap (λ n. first_or n (get_or words k 0)) (notes.others k ne))
@@ -148,66 +158,6 @@ knows_store old now at word found in_range notes = record {
   noted = λ steady. rw notes.here refl;
   here = λ steady words fits. (let inside : at < length words = rw fits.are.length_is in_range in fits.present at (record { present = word; first = first_or (old.noted at) found }) inside notes.here);
 }
-
--- no store yet
-pub writes_none : (m : MemSeen) → Writes m m []
-writes_none m = record { kept = record { setting = refl; plan = refl }; came = λ words fits. (words, record { fits = fits; leads = refl; origin = refl }); noted = λ k h. h }
-
-pub after_stores_on : (words : List ℕ) (ss ts : List (ℕ × ℕ)) → after_stores words (ss ++ ts) ≡ after_stores (after_stores words ss) ts
-after_stores_on words [] ts = refl
-after_stores_on words (s ∷ ss) ts = after_stores_on (slice_set words s.0 s.1) ss ts
-
--- stores, and stores after them
-pub writes_append : (a b c : MemSeen) (ss ts : List (ℕ × ℕ)) → Writes a b ss → Writes b c ts → Writes a c (ss ++ ts)
-writes_append a b c ss ts p q = record {
-  kept = keeps_transitive a b c p.kept q.kept;
-  came = λ words fits.
-      let mid = q.came words fits in
-      let far = p.came mid.0 mid.1.fits in (
-        far.0,
-        record {
-          fits = far.1.fits;
-          leads = after_stores_on far.0 ss ts ∙ (ap (λ w. after_stores w ts) far.1.leads ∙ mid.1.leads);
-          origin = mid.1.origin ∙ far.1.origin;
-        },
-      );
-  noted = λ k h. q.noted k (p.noted k h);
-}
-
--- loads after stores
-pub writes_reads : (a b c : MemSeen) (ss : List (ℕ × ℕ)) → Writes a b ss → Reads b c → Writes a c ss
-writes_reads a b c ss p q = record {
-  kept = keeps_transitive a b c p.kept q.kept;
-  came = λ words fits.
-      let far = p.came words (q.fits words fits) in
-      (far.0, record { fits = far.1.fits; leads = far.1.leads; origin = q.origin words fits ∙ far.1.origin });
-  noted = λ k h. q.noted k (p.noted k h);
-}
-
--- stores after loads
-pub reads_writes : (a b c : MemSeen) (ss : List (ℕ × ℕ)) → Reads a b → Writes b c ss → Writes a c ss
-reads_writes a b c ss p q = record {
-  kept = keeps_transitive a b c p.kept q.kept;
-  came = λ words fits.
-      let far = q.came words fits in
-      (far.0, record { fits = p.fits far.0 far.1.fits; leads = far.1.leads; origin = far.1.origin ∙ p.origin far.0 far.1.fits });
-  noted = λ k h. q.noted k (p.noted k h);
-}
-
-allows_next : (setting : Setting) (plan : Option Change) (o words : List ℕ) (ss ts : List (ℕ × ℕ)) (at word : ℕ) → AllowsAll setting plan o words (ss ++ (at, word) ∷ ts) → IsAllowed setting plan o (after_stores words ss) (slice_set (after_stores words ss) at word)
-allows_next setting plan o words [] ts at word h = h.0
-allows_next setting plan o words (s ∷ ss) ts at word h = allows_next setting plan o (slice_set words s.0 s.1) ss ts at word h.1
-
-allowed_at : (setting : Setting) (plan : Option Change) (o p xs ys : List ℕ) (at word : ℕ) → o ≡ p → xs ≡ ys → IsAllowed setting plan p xs (slice_set xs at word) → IsAllowed setting plan o ys (slice_set ys at word)
-allowed_at setting plan o p xs ys at word e f h = rw (e, ← f) h
-
--- the next one of stores that may be made may be made
-pub may_store_after : (old now : MemSeen) (ss ts : List (ℕ × ℕ)) (at word : ℕ) → MayStoreAll old (ss ++ (at, word) ∷ ts) → Writes old now ss → MayStore now at word
-unfolding origin
-may_store_after old now ss ts at word may writes words fits =
-    let came = writes.came words fits in
-    rw (writes.kept.setting, writes.kept.plan)
-    (allowed_at old.setting old.plan (origin now words) (origin old came.0) (after_stores came.0 ss) words at word came.1.origin came.1.leads (allows_next old.setting old.plan (origin old came.0) came.0 ss ts at word (may came.0 came.1.fits)))
 
 -- lists that fit after the change number rose by one
 module _ (old now : MemSeen) (setting : now.setting ≡ old.setting) (in_range : 1 < words_in_segment now.setting.geo) (was now_one : Note) (stood : old.noted 1 ≡ Some was) (here : now.noted 1 ≡ Some now_one) (up : now_one.present ≡ was.present + 1) (small : was.present < 2 ^ 64) (others : (other : ℕ) (note : Note) → other ≢ 1 → old.noted other ≡ Some note → (then : Note) × (now.noted other ≡ Some then) × (then.present ≡ note.present)) where
@@ -268,11 +218,3 @@ finishes_by old now number in_range setting plan notes = record {
     | inr ne ↦ rw (notes.others k ne) h
   ];
 }
-
--- of some stores none was made
-pub prefix_none : (a b : MemSeen) (ss : List (ℕ × ℕ)) → Reads a b → WritesPrefix a b ss
-prefix_none a b ss reads = record { made = []; left = ss; parts = refl; writes = writes_reads a a b [] (writes_none a) reads }
-
--- stores were made, and the next one was not
-pub prefix_some : (a b c : MemSeen) (ss ts : List (ℕ × ℕ)) → Writes a b ss → Reads b c → WritesPrefix a c (ss ++ ts)
-prefix_some a b c ss ts writes reads = record { made = ss; left = ts; parts = refl; writes = writes_reads a b c ss writes reads }

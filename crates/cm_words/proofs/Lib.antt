@@ -1,7 +1,10 @@
 pub mod MeterCounts
 pub mod Notes
 pub mod FittingLists
+pub mod ListChanges
 pub mod StoreLists
+pub mod CallSequences
+pub mod UnderPlan
 pub mod MapPlaces
 pub mod PlainNotes
 pub mod OneMemoryState

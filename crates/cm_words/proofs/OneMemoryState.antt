@@ -12,7 +12,7 @@ use Rattle.cm_words.specs.Fuses.{FuseSeen}
 use Rattle.cm_words.specs.Plain.{plain_seen}
 use Rattle.cm_words.specs.Fixed.{fixed_seen}
 use Rattle.cm_words.specs.Notes.{notes_in}
-use Rattle.cm_words.specs.Effects.{Writes, after_stores}
+use Rattle.cm_words.specs.Stores.{WordStore, Writes, after_stores}
 use Rattle.cm_words.specs.Laws.{IsUnderAtMostOne, NotesAll, TellsItsWords}
 use Rattle.cm_words.proofs.MapPlaces.{number_inside, segment_inside}
 use Rattle.cm_words.proofs.PlainNotes.{noted_inside}
@@ -98,16 +98,16 @@ fixed_notes_all m = record {
 }
 
 -- what stores did to the segment's words
-pub stored_in : {F : Type 0} {g : _} (fused : F → FuseSeen) (a b : PlainMem F g) (stores : List (ℕ × ℕ)) → Writes (plain_seen fused a) (plain_seen fused b) stores
+pub stored_in : {F : Type 0} {g : _} (fused : F → FuseSeen) (a b : PlainMem F g) (stores : List WordStore) → Writes (plain_seen fused a) (plain_seen fused b) stores
     → segment_in b.words.now b.segment ≡ after_stores (segment_in a.words.now a.segment) stores
 stored_in fused a b stores writes =
     let fits = fits_some (plain_seen fused b) b.words.now b.segment b.first.value.words (plain_notes_all fused b) in
     let came = writes.came (segment_in b.words.now b.segment) fits in
     let before = fits_only (plain_seen fused a) a.words.now a.segment a.first.value.words came.0 (plain_notes_all fused a) came.1.fits in
-    sym came.1.leads ∙ ap (λ (w : List ℕ). after_stores w stores) before
+    sym came.1.relates.leads ∙ ap (λ (w : List ℕ). after_stores w stores) before
 
 -- the same of the lender's words, where the memory was made over these and ends with those
-pub lender_has : {F : Type 0} {g : _} (fused : F → FuseSeen) (a b : PlainMem F g) (old now : MapWords) (segment : ℕ) (stores : List (ℕ × ℕ)) → Writes (plain_seen fused a) (plain_seen fused b) stores
+pub lender_has : {F : Type 0} {g : _} (fused : F → FuseSeen) (a b : PlainMem F g) (old now : MapWords) (segment : ℕ) (stores : List WordStore) → Writes (plain_seen fused a) (plain_seen fused b) stores
     → a.words.now ≡ old → a.segment ≡ segment → b.segment ≡ segment → now ≡ b.words.now → segment_in now segment ≡ after_stores (segment_in old segment) stores
 lender_has fused a b old now segment stores writes was a_is b_is is =
     ap (λ (w : MapWords). segment_in w segment) is ∙ (ap (λ (s : ℕ). segment_in b.words.now s) (sym b_is)

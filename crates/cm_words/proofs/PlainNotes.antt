@@ -1,11 +1,11 @@
 -- Notes of each word of a segment, after what was done to one of them.
-use Rattle.std.proofs.Common.{◌≡◌, ◌≢◌, ℕ, ◌+◌, ◌*◌, ◌<◌, ◌^◌, Some, None, Option, Bool, true, false, List, length, get_or, slice_set, arith, refl, sym, ◌∙◌, cond, nat_lt, get_or-set_other, get_or-set_same, is_some, IsSome}
+use Rattle.std.proofs.Common.{◌≡◌, ◌≢◌, ℕ, ◌+◌, ◌*◌, ◌<◌, ◌^◌, Some, None, Option, Bool, true, false, List, length, get_or, slice_set, arith, refl, sym, ◌∙◌, cond, nat_lt, get_or-set_other, get_or-set_same, IsSome}
 use Rattle.std.proofs.lemmas.Grind.{common_steps}
 use Rattle.cm_geo.specs.declared.geo.Geo.{Geo}
 use Rattle.cm_geo.specs.Addresses.{words_in_segment}
 use Rattle.cm_plain.specs.Changes.{Change}
 use Rattle.cm_words.specs.declared.plan_copy.PlanCopy.{PlanCopy}
-use Rattle.cm_words.specs.PlanCopies.{copied_change, copied_plan}
+use Rattle.cm_words.specs.PlanCopies.{copied_change, plan_under_way}
 use Rattle.cm_words.specs.Memory.{MemSeen, Note}
 use Rattle.cm_words.specs.Notes.{notes_in}
 use Rattle.cm_words.proofs.Notes.{NotesBegin, NotesFinish, NotesLoad, NotesStore, rebased}
@@ -80,14 +80,14 @@ notes_finished old now geo start number present first inside long small twice wa
       here = rw (after, get_or-set_same) refl;
     }
 
--- a plan that isn't told isn't kept, and one that is told is
-pub no_plan : (plan : Option PlanCopy) → copied_plan plan ≡ None → is_some plan ≡ false
-no_plan None e = refl
-no_plan (Some plan) e = absurd (clash (copied_change plan) e)
+-- a plan that isn't told isn't under way, and one that is told is
+pub no_plan : (is_under_way : Bool) (plan : PlanCopy) → plan_under_way is_under_way plan ≡ None → is_under_way ≡ false
+no_plan false plan e = refl
+no_plan true plan e = absurd (clash (copied_change plan) e)
   where
     clash : (change : Change) → Some change ≡ None → ⊥
     clash change e = cc e
 
-pub some_plan : (plan : Option PlanCopy) → IsSome (copied_plan plan) → is_some plan ≡ true
-some_plan None h = h
-some_plan (Some plan) h = refl
+pub some_plan : (is_under_way : Bool) (plan : PlanCopy) → IsSome (plan_under_way is_under_way plan) → is_under_way ≡ true
+some_plan false plan h = h
+some_plan true plan h = refl

@@ -1,223 +1,251 @@
--- Stores, also those that depend on the words in which they are made: which are allowed, which were made, and which of them.
-use Rattle.std.proofs.Common.{◌≡◌, ℕ, ◌<◌, List, [], ◌∷◌, ◌++◌, slice_set, Option, true, false, refl, sym, subst, ap, ◌∙◌, append_assoc}
+-- Stores, also those that depend on the words in which they are made: what they lead to, which are allowed, and which were made.
+use Rattle.std.proofs.Common.{◌≡◌, ℕ, ◌+◌, ◌<◌, List, [], ◌∷◌, ◌++◌, length, slice_set, Option, true, false, refl, sym, subst, ap, ◌∙◌, append_assoc, length-append, arith}
 use Rattle.cm_plain.specs.Changes.{Change}
 use Rattle.cm_plain.specs.Slots.{word_at}
-use Rattle.cm_words.specs.Memory.{IsAllowed, MayStore, MemSeen, Setting, origin}
-use Rattle.cm_words.specs.Effects.{AllowsAll, Keeps, MayStoreAll, Reads, Knows, Writes, WritesPrefix, after_stores}
-use Rattle.cm_words.specs.Stores.{MayStoreEach, WritesEach, WritesPrefixEach}
-use Rattle.cm_words.proofs.FittingLists.{after_stores_on, keeps_transitive, reads_writes, writes_append}
+use Rattle.cm_words.specs.Memory.{FitsNotes, IsAllowed, MayStore, MemSeen, Setting, origin}
+use Rattle.cm_words.specs.Effects.{Changes, Keeps, Knows, Reads}
+use Rattle.cm_words.specs.Stores.{AllowsAll, Leads, LeadsPrefix, MayStoreAll, MayStoreEach, WordStore, Writes, WritesEach, WritesPrefix, WritesPrefixEach, after_stores, store_at}
+use Rattle.cm_words.proofs.FittingLists.{reads_reflexive}
+use Rattle.cm_words.proofs.ListChanges.{changes_as, changes_none, changes_reads, changes_then, reads_changes}
+
+-- ---- what stores lead to
+
+pub after_stores_append : (words : List ℕ) (ss ts : List WordStore) → after_stores words (ss ++ ts) ≡ after_stores (after_stores words ss) ts
+after_stores_append words [] ts = refl
+after_stores_append words (s ∷ ss) ts = after_stores_append (slice_set words s.at s.word) ss ts
+
+pub leads_none : (a b : MemSeen) (words : List ℕ) → b.meter.stores ≡ a.meter.stores → Leads a b [] words words
+leads_none a b words same = record { leads = refl; counted = omega arith }
+
+pub leads_append : (a b c : MemSeen) (ss ts : List WordStore) (x y z : List ℕ) → Leads a b ss x y → Leads b c ts y z → Leads a c (ss ++ ts) x z
+leads_append a b c ss ts x y z p q = record {
+  leads = after_stores_append x ss ts ∙ (ap (λ w. after_stores w ts) p.leads ∙ q.leads);
+  counted = omega (arith, p.counted, q.counted, length-append ss ts);
+}
+
+-- loads after stores, and before them
+pub leads_reads : (a b c : MemSeen) (ss : List WordStore) (x y : List ℕ) → Leads a b ss x y → Reads b c → Leads a c ss x y
+leads_reads a b c ss x y p q = record { leads = p.leads; counted = q.no_store ∙ p.counted }
+
+pub reads_leads : (a b c : MemSeen) (ss : List WordStore) (x y : List ℕ) → Reads a b → Leads b c ss x y → Leads a c ss x y
+reads_leads a b c ss x y p q = record { leads = q.leads; counted = omega (arith, p.no_store, q.counted) }
+
+-- the same stores by another name
+pub leads_same : (a b : MemSeen) (ss ts : List WordStore) (x y : List ℕ) → ts ≡ ss → Leads a b ss x y → Leads a b ts x y
+leads_same a b ss ts x y same p = subst (λ (stores : List WordStore). Leads a b stores x y) (sym same) p
 
 -- ---- which stores are allowed
 
-allows_prefix : (setting : Setting) (plan : Option Change) (o words : List ℕ) (ss ts : List (ℕ × ℕ)) → AllowsAll setting plan o words (ss ++ ts) → AllowsAll setting plan o words ss
+allows_prefix : (setting : Setting) (plan : Option Change) (o words : List ℕ) (ss ts : List WordStore) → AllowsAll setting plan o words (ss ++ ts) → AllowsAll setting plan o words ss
 allows_prefix setting plan o words [] ts h = tt
-allows_prefix setting plan o words (s ∷ ss) ts h = (h.0, allows_prefix setting plan o (slice_set words s.0 s.1) ss ts h.1)
+allows_prefix setting plan o words (s ∷ ss) ts h = (h.0, allows_prefix setting plan o (slice_set words s.at s.word) ss ts h.1)
 
-allows_back : (setting : Setting) (plan : Option Change) (o words : List ℕ) (ss ts : List (ℕ × ℕ)) → AllowsAll setting plan o words (ss ++ ts) → AllowsAll setting plan o (after_stores words ss) ts
-allows_back setting plan o words [] ts h = h
-allows_back setting plan o words (s ∷ ss) ts h = allows_back setting plan o (slice_set words s.0 s.1) ss ts h.1
+allows_suffix : (setting : Setting) (plan : Option Change) (o words : List ℕ) (ss ts : List WordStore) → AllowsAll setting plan o words (ss ++ ts) → AllowsAll setting plan o (after_stores words ss) ts
+allows_suffix setting plan o words [] ts h = h
+allows_suffix setting plan o words (s ∷ ss) ts h = allows_suffix setting plan o (slice_set words s.at s.word) ss ts h.1
+
+allows_next : (setting : Setting) (plan : Option Change) (o words : List ℕ) (ss ts : List WordStore) (at word : ℕ) → AllowsAll setting plan o words (ss ++ store_at at word ∷ ts) → IsAllowed setting plan o (after_stores words ss) (slice_set (after_stores words ss) at word)
+allows_next setting plan o words [] ts at word h = h.0
+allows_next setting plan o words (s ∷ ss) ts at word h = allows_next setting plan o (slice_set words s.at s.word) ss ts at word h.1
+
+allowed_at : (setting : Setting) (plan : Option Change) (o p xs ys : List ℕ) (at word : ℕ) → o ≡ p → xs ≡ ys → IsAllowed setting plan p xs (slice_set xs at word) → IsAllowed setting plan o ys (slice_set ys at word)
+allowed_at setting plan o p xs ys at word e f h = rw (e, ← f) h
 
 -- over a memory that has come from another one
-pub allows_at : (old now : MemSeen) (o p xs ys : List ℕ) (ts : List (ℕ × ℕ)) → Keeps old now → p ≡ o → xs ≡ ys → AllowsAll old.setting old.plan o xs ts → AllowsAll now.setting now.plan p ys ts
+pub allows_at : (old now : MemSeen) (o p xs ys : List ℕ) (ts : List WordStore) → Keeps old now → p ≡ o → xs ≡ ys → AllowsAll old.setting old.plan o xs ts → AllowsAll now.setting now.plan p ys ts
 allows_at old now o p xs ys ts kept e f h = rw (kept.setting, kept.plan, e, ← f) h
 
 -- stores are allowed where each one is, after those before it
-pub allows_each : (setting : Setting) (plan : Option Change) (o words : List ℕ) (stores : List (ℕ × ℕ))
-    → ((made left : List (ℕ × ℕ)) (at word : ℕ) → made ++ (at, word) ∷ left ≡ stores → IsAllowed setting plan o (after_stores words made) (slice_set (after_stores words made) at word)) → AllowsAll setting plan o words stores
+pub allows_each : (setting : Setting) (plan : Option Change) (o words : List ℕ) (stores : List WordStore)
+    → ((made left : List WordStore) (at word : ℕ) → made ++ store_at at word ∷ left ≡ stores → IsAllowed setting plan o (after_stores words made) (slice_set (after_stores words made) at word)) → AllowsAll setting plan o words stores
 allows_each setting plan o words [] each = tt
 allows_each setting plan o words (s ∷ stores) each = (
-  each [] stores s.0 s.1 refl,
-  allows_each setting plan o (slice_set words s.0 s.1) stores (λ made left at word e. each (s ∷ made) left at word (ap (λ (ss : List (ℕ × ℕ)). s ∷ ss) e)),
+  each [] stores s.at s.word refl,
+  allows_each setting plan o (slice_set words s.at s.word) stores (λ made left at word e. each (s ∷ made) left at word (ap (λ (ss : List WordStore). s ∷ ss) e)),
 )
 
 -- the first of stores that may be made may be made
-pub may_prefix : (m : MemSeen) (ss ts : List (ℕ × ℕ)) → MayStoreAll m (ss ++ ts) → MayStoreAll m ss
+pub may_prefix : (m : MemSeen) (ss ts : List WordStore) → MayStoreAll m (ss ++ ts) → MayStoreAll m ss
 may_prefix m ss ts may words fits = allows_prefix m.setting m.plan (origin m words) words ss ts (may words fits)
 
 -- and after them the others
-pub may_back : (old now : MemSeen) (ss ts : List (ℕ × ℕ)) → MayStoreAll old (ss ++ ts) → Writes old now ss → MayStoreAll now ts
-may_back old now ss ts may writes words fits =
+pub may_suffix : (old now : MemSeen) (ss ts : List WordStore) → MayStoreAll old (ss ++ ts) → Writes old now ss → MayStoreAll now ts
+may_suffix old now ss ts may writes words fits =
     let came = writes.came words fits in
-    allows_at old now (origin old came.0) (origin now words) (after_stores came.0 ss) words ts writes.kept came.1.origin came.1.leads
-    (allows_back old.setting old.plan (origin old came.0) came.0 ss ts (may came.0 came.1.fits))
+    allows_at old now (origin old came.0) (origin now words) (after_stores came.0 ss) words ts writes.kept came.1.origin came.1.relates.leads
+    (allows_suffix old.setting old.plan (origin old came.0) came.0 ss ts (may came.0 came.1.fits))
+
+-- the next one of stores that may be made may be made
+pub may_store_after : (old now : MemSeen) (ss ts : List WordStore) (at word : ℕ) → MayStoreAll old (ss ++ store_at at word ∷ ts) → Writes old now ss → MayStore now at word
+unfolding origin
+may_store_after old now ss ts at word may writes words fits =
+    let came = writes.came words fits in
+    rw (writes.kept.setting, writes.kept.plan)
+    (allowed_at old.setting old.plan (origin now words) (origin old came.0) (after_stores came.0 ss) words at word came.1.origin came.1.relates.leads
+    (allows_next old.setting old.plan (origin old came.0) came.0 ss ts at word (may came.0 came.1.fits)))
 
 -- one store of a list of one
-pub may_one : (m : MemSeen) (at word : ℕ) → MayStoreAll m ((at, word) ∷ []) → MayStore m at word
+pub may_one : (m : MemSeen) (at word : ℕ) → MayStoreAll m (store_at at word ∷ []) → MayStore m at word
 may_one m at word may words fits = (may words fits).0
+
+-- ---- which stores were made
+
+pub writes_none : (m : MemSeen) → Writes m m []
+writes_none m = changes_none m m (λ before words. Leads m m [] before words) (reads_reflexive m) (λ words. leads_none m m words refl)
+
+-- stores, and stores after them
+pub writes_append : (a b c : MemSeen) (ss ts : List WordStore) → Writes a b ss → Writes b c ts → Writes a c (ss ++ ts)
+writes_append a b c ss ts p q = changes_then a b c (Leads a b ss) (Leads b c ts) (Leads a c (ss ++ ts)) p q (λ before mid words _ one two. leads_append a b c ss ts before mid words one two)
+
+-- loads after stores
+pub writes_reads : (a b c : MemSeen) (stores : List ℕ → List WordStore) → WritesEach a b stores → Reads b c → WritesEach a c stores
+writes_reads a b c stores p q =
+    changes_reads a b c (λ before words. Leads a b (stores before) before words) (λ before words. Leads a c (stores before) before words) p q
+    (λ before words leads. leads_reads a b c (stores before) before words leads q)
+
+-- stores after loads
+pub reads_writes : (a b c : MemSeen) (stores : List ℕ → List WordStore) → Reads a b → WritesEach b c stores → WritesEach a c stores
+reads_writes a b c stores p q =
+    reads_changes a b c (λ before words. Leads b c (stores before) before words) (λ before words. Leads a c (stores before) before words) p q
+    (λ before words leads. reads_leads a b c (stores before) before words p leads)
+
+-- the same stores by another name
+pub writes_same : (a b : MemSeen) (ss ts : List ℕ → List WordStore) → ((words : List ℕ) → ts words ≡ ss words) → WritesEach a b ss → WritesEach a b ts
+writes_same a b ss ts same p =
+    changes_as a b (λ before words. Leads a b (ss before) before words) (λ before words. Leads a b (ts before) before words) p
+    (λ before words _ leads. leads_same a b (ss before) (ts before) before words (same before) leads)
+
+pub may_store_same : (m : MemSeen) (ss ts : List ℕ → List WordStore) → ((words : List ℕ) → ts words ≡ ss words) → MayStoreEach m ts → MayStoreEach m ss
+may_store_same m ss ts same may words fits = subst (λ (stores : List WordStore). AllowsAll m.setting m.plan (origin m words) words stores) (same words) (may words fits)
 
 -- ---- one word, changed after it was loaded
 
--- the store of what is made of the word at a place
-abbrev pub remade : ℕ → (ℕ → ℕ) → List ℕ → List (ℕ × ℕ)
-remade at make words = (at, make (word_at words at)) ∷ []
+-- the store of what is made of the word at an address
+abbrev pub remade : ℕ → (ℕ → ℕ) → List ℕ → List WordStore
+remade at make words = store_at at (make (word_at words at)) ∷ []
 
 pub may_store_remade : (a b : MemSeen) (at found word : ℕ) (make : ℕ → ℕ) → MayStoreEach a (remade at make) → Reads a b → 0 < at → Knows b at found → word ≡ make found → MayStore b at word
-may_store_remade a b at found word make may reads behind knows is words fits =
-    let made : word ≡ make (word_at words at) = is ∙ ap make (sym (knows.here (λ _. behind) words fits)) in
+may_store_remade a b at found word make may reads inner knows is words fits =
+    let made : word ≡ make (word_at words at) = is ∙ ap make (sym (knows.here (λ _. inner) words fits)) in
     let all = allows_at a b (origin a words) (origin b words) words words (remade at make words) reads.kept (reads.origin words fits) refl (may words (reads.fits words fits)) in
     subst (λ (w : ℕ). IsAllowed b.setting b.plan (origin b words) words (slice_set words at w)) (sym made) all.0
 
-pub writes_remade : (a b c : MemSeen) (at found word : ℕ) (make : ℕ → ℕ) → Reads a b → 0 < at → Knows b at found → word ≡ make found → Writes b c ((at, word) ∷ []) → WritesEach a c (remade at make)
-writes_remade a b c at found word make reads behind knows is writes =
-    let both = reads_writes a b c ((at, word) ∷ []) reads writes in
-    record {
-      kept = both.kept;
-      came = λ words fits.
-          let far = writes.came words fits in
-          let made : word ≡ make (word_at far.0 at) = is ∙ ap make (sym (knows.here (λ _. behind) far.0 far.1.fits)) in (
-            far.0,
-            record {
-              fits = reads.fits far.0 far.1.fits;
-              leads = subst (λ (w : ℕ). slice_set far.0 at w ≡ words) made far.1.leads;
-              origin = far.1.origin ∙ reads.origin far.0 far.1.fits;
-            },
-          );
-      noted = both.noted;
-    }
+pub writes_remade : (a b c : MemSeen) (at found word : ℕ) (make : ℕ → ℕ) → Reads a b → 0 < at → Knows b at found → word ≡ make found → Writes b c (store_at at word ∷ []) → WritesEach a c (remade at make)
+writes_remade a b c at found word make reads inner knows is writes =
+    reads_writes a b c (remade at make) reads
+    (changes_as b c (λ before words. Leads b c (store_at at word ∷ []) before words) (λ before words. Leads b c (remade at make before) before words) writes
+    (λ before words fits leads.
+        let made : word ≡ make (word_at before at) = is ∙ ap make (sym (knows.here (λ _. inner) before fits)) in
+        subst (λ (w : ℕ). Leads b c (store_at at w ∷ []) before words) made leads))
 
 -- ---- some stores, and then others
 
 -- these stores are those, and then, in the list after them, the others
-abbrev pub AreBoth : (List ℕ → List (ℕ × ℕ)) → (List ℕ → List (ℕ × ℕ)) → (List ℕ → List (ℕ × ℕ)) → Type 0
-AreBoth all first then = (words : List ℕ) → all words ≡ first words ++ then (after_stores words (first words))
+abbrev pub AreJoined : (List ℕ → List WordStore) → (List ℕ → List WordStore) → (List ℕ → List WordStore) → Type 0
+AreJoined all first then = (words : List ℕ) → all words ≡ first words ++ then (after_stores words (first words))
 
-pub may_store_first : (m : MemSeen) (all first then : List ℕ → List (ℕ × ℕ)) → AreBoth all first then → MayStoreEach m all → MayStoreEach m first
-may_store_first m all first then both may words fits =
+pub may_store_first : (m : MemSeen) (all first then : List ℕ → List WordStore) → AreJoined all first then → MayStoreEach m all → MayStoreEach m first
+may_store_first m all first then joined may words fits =
     allows_prefix m.setting m.plan (origin m words) words (first words) (then (after_stores words (first words)))
-    (subst (λ (stores : List (ℕ × ℕ)). AllowsAll m.setting m.plan (origin m words) words stores) (both words) (may words fits))
+    (subst (λ (stores : List WordStore). AllowsAll m.setting m.plan (origin m words) words stores) (joined words) (may words fits))
 
-pub may_store_then : (a b : MemSeen) (all first then : List ℕ → List (ℕ × ℕ)) → AreBoth all first then → MayStoreEach a all → WritesEach a b first → MayStoreEach b then
-may_store_then a b all first then both may writes words fits =
+pub may_store_then : (a b : MemSeen) (all first then : List ℕ → List WordStore) → AreJoined all first then → MayStoreEach a all → WritesEach a b first → MayStoreEach b then
+may_store_then a b all first then joined may writes words fits =
     let came = writes.came words fits in
     let rest : AllowsAll a.setting a.plan (origin a came.0) (after_stores came.0 (first came.0)) (then (after_stores came.0 (first came.0))) =
-    allows_back a.setting a.plan (origin a came.0) came.0 (first came.0) (then (after_stores came.0 (first came.0)))
-    (subst (λ (stores : List (ℕ × ℕ)). AllowsAll a.setting a.plan (origin a came.0) came.0 stores) (both came.0) (may came.0 came.1.fits)) in
+    allows_suffix a.setting a.plan (origin a came.0) came.0 (first came.0) (then (after_stores came.0 (first came.0)))
+    (subst (λ (stores : List WordStore). AllowsAll a.setting a.plan (origin a came.0) came.0 stores) (joined came.0) (may came.0 came.1.fits)) in
     allows_at a b (origin a came.0) (origin b words) words words (then words) writes.kept came.1.origin refl
-    (subst (λ (w : List ℕ). AllowsAll a.setting a.plan (origin a came.0) w (then w)) came.1.leads rest)
+    (subst (λ (w : List ℕ). AllowsAll a.setting a.plan (origin a came.0) w (then w)) came.1.relates.leads rest)
 
-pub writes_then : (a b c : MemSeen) (all first then : List ℕ → List (ℕ × ℕ)) → AreBoth all first then → WritesEach a b first → WritesEach b c then → WritesEach a c all
-writes_then a b c all first then both p q = record {
-  kept = keeps_transitive a b c p.kept q.kept;
-  came = λ words fits.
-      let mid = q.came words fits in
-      let far = p.came mid.0 mid.1.fits in (
-        far.0,
-        record {
-          fits = far.1.fits;
-          leads = ap (after_stores far.0) (both far.0)
-              ∙ (after_stores_on far.0 (first far.0) (then (after_stores far.0 (first far.0)))
-              ∙ (ap (λ (w : List ℕ). after_stores w (then w)) far.1.leads ∙ mid.1.leads));
-          origin = mid.1.origin ∙ far.1.origin;
-        },
-      );
-  noted = λ k h. q.noted k (p.noted k h);
-}
+pub writes_then : (a b c : MemSeen) (all first then : List ℕ → List WordStore) → AreJoined all first then → WritesEach a b first → WritesEach b c then → WritesEach a c all
+writes_then a b c all first then joined p q =
+    changes_then a b c (λ before words. Leads a b (first before) before words) (λ before words. Leads b c (then before) before words) (λ before words. Leads a c (all before) before words) p q
+    (λ before mid words _ one two.
+        let after : then mid ≡ then (after_stores before (first before)) = ap then (sym one.leads) in
+        leads_same a c (first before ++ then mid) (all before) before words (joined before ∙ ap (λ (ss : List WordStore). first before ++ ss) (sym after))
+        (leads_append a b c (first before) (then mid) before mid words one two))
 
 -- the first stores for each list, where the others are the same for each one
-pub may_prefix_each : (m : MemSeen) (first : List ℕ → List (ℕ × ℕ)) (ts : List (ℕ × ℕ)) → MayStoreEach m (λ words. first words ++ ts) → MayStoreEach m first
+pub may_prefix_each : (m : MemSeen) (first : List ℕ → List WordStore) (ts : List WordStore) → MayStoreEach m (λ words. first words ++ ts) → MayStoreEach m first
 may_prefix_each m first ts may = may_store_first m (λ words. first words ++ ts) first (λ _. ts) (λ words. refl) may
 
 -- and after them the others
-pub may_back_each : (old now : MemSeen) (first : List ℕ → List (ℕ × ℕ)) (ts : List (ℕ × ℕ)) → MayStoreEach old (λ words. first words ++ ts) → WritesEach old now first → MayStoreAll now ts
-may_back_each old now first ts may writes = may_store_then old now (λ words. first words ++ ts) first (λ _. ts) (λ words. refl) may writes
+pub may_suffix_each : (old now : MemSeen) (first : List ℕ → List WordStore) (ts : List WordStore) → MayStoreEach old (λ words. first words ++ ts) → WritesEach old now first → MayStoreAll now ts
+may_suffix_each old now first ts may writes = may_store_then old now (λ words. first words ++ ts) first (λ _. ts) (λ words. refl) may writes
 
--- the same stores by another name
-pub writes_same : (a b : MemSeen) (ss ts : List ℕ → List (ℕ × ℕ)) → ((words : List ℕ) → ts words ≡ ss words) → WritesEach a b ss → WritesEach a b ts
-writes_same a b ss ts same p = record {
-  kept = p.kept;
-  came = λ words fits. (let far = p.came words fits in (far.0, record { fits = far.1.fits; leads = ap (after_stores far.0) (same far.0) ∙ far.1.leads; origin = far.1.origin }));
-  noted = p.noted;
-}
+-- ---- a prefix of stores
 
-pub may_store_same : (m : MemSeen) (ss ts : List ℕ → List (ℕ × ℕ)) → ((words : List ℕ) → ts words ≡ ss words) → MayStoreEach m ts → MayStoreEach m ss
-may_store_same m ss ts same may words fits = subst (λ (stores : List (ℕ × ℕ)). AllowsAll m.setting m.plan (origin m words) words stores) (same words) (may words fits)
+-- none was made
+pub prefix_none : (a b : MemSeen) (ss : List WordStore) → Reads a b → WritesPrefix a b ss
+prefix_none a b ss reads = record { made = []; left = ss; parts = refl; writes = writes_reads a a b (λ _. []) (writes_none a) reads }
 
--- loads after stores
-pub writes_for_reads : (a b c : MemSeen) (ss : List ℕ → List (ℕ × ℕ)) → WritesEach a b ss → Reads b c → WritesEach a c ss
-writes_for_reads a b c ss p q = record {
-  kept = keeps_transitive a b c p.kept q.kept;
-  came = λ words fits. (let far = p.came words (q.fits words fits) in (far.0, record { fits = far.1.fits; leads = far.1.leads; origin = q.origin words fits ∙ far.1.origin }));
-  noted = λ k h. q.noted k (p.noted k h);
-}
-
--- ---- a front of stores
+-- stores were made, and the next one was not
+pub prefix_some : (a b c : MemSeen) (ss ts : List WordStore) → Writes a b ss → Reads b c → WritesPrefix a c (ss ++ ts)
+prefix_some a b c ss ts writes reads = record { made = ss; left = ts; parts = refl; writes = writes_reads a b c (λ _. ss) writes reads }
 
 -- all of the first stores were made, and some of the others
-pub prefix_behind : (a b c : MemSeen) (ss ts : List (ℕ × ℕ)) → Writes a b ss → WritesPrefix b c ts → WritesPrefix a c (ss ++ ts)
-prefix_behind a b c ss ts p q = record {
+pub prefix_then : (a b c : MemSeen) (ss ts : List WordStore) → Writes a b ss → WritesPrefix b c ts → WritesPrefix a c (ss ++ ts)
+prefix_then a b c ss ts p q = record {
   made = ss ++ q.made;
   left = q.left;
-  parts = append_assoc ss q.made q.left ∙ ap (λ (stores : List (ℕ × ℕ)). ss ++ stores) q.parts;
+  parts = append_assoc ss q.made q.left ∙ ap (λ (stores : List WordStore). ss ++ stores) q.parts;
   writes = writes_append a b c ss q.made p q.writes;
 }
 
 -- some of the first stores were made
-pub prefix_first : (a b : MemSeen) (ss ts : List (ℕ × ℕ)) → WritesPrefix a b ss → WritesPrefix a b (ss ++ ts)
+pub prefix_first : (a b : MemSeen) (ss ts : List WordStore) → WritesPrefix a b ss → WritesPrefix a b (ss ++ ts)
 prefix_first a b ss ts p = record {
   made = p.made;
   left = p.left ++ ts;
-  parts = sym (append_assoc p.made p.left ts) ∙ ap (λ (stores : List (ℕ × ℕ)). stores ++ ts) p.parts;
+  parts = sym (append_assoc p.made p.left ts) ∙ ap (λ (stores : List WordStore). stores ++ ts) p.parts;
   writes = p.writes;
 }
 
 -- none was made
-pub prefix_each_none : (a b : MemSeen) (stores : List ℕ → List (ℕ × ℕ)) → Reads a b → WritesPrefixEach a b stores
-prefix_each_none a b stores reads = record {
-  kept = reads.kept;
-  came = λ words fits. (words, record { made = []; left = stores words; parts = refl; by = record { fits = reads.fits words fits; leads = refl; origin = reads.origin words fits } });
-  noted = reads.noted;
-}
+pub prefix_each_none : (a b : MemSeen) (stores : List ℕ → List WordStore) → Reads a b → WritesPrefixEach a b stores
+prefix_each_none a b stores reads =
+    changes_none a b (λ before words. LeadsPrefix a b (stores before) before words) reads
+    (λ words. record { made = []; left = stores words; parts = refl; by = leads_none a b words reads.no_store })
 
 -- the first stores for each list were made, and some of the others
-pub prefix_each_behind : (a b c : MemSeen) (first : List ℕ → List (ℕ × ℕ)) (ts : List (ℕ × ℕ)) → WritesEach a b first → WritesPrefix b c ts → WritesPrefixEach a c (λ words. first words ++ ts)
-prefix_each_behind a b c first ts p q = record {
-  kept = keeps_transitive a b c p.kept q.writes.kept;
-  came = λ words fits.
-      let mid = q.writes.came words fits in
-      let far = p.came mid.0 mid.1.fits in (
-        far.0,
-        record {
-          made = first far.0 ++ q.made;
-          left = q.left;
-          parts = append_assoc (first far.0) q.made q.left ∙ ap (λ (stores : List (ℕ × ℕ)). first far.0 ++ stores) q.parts;
-          by = record {
-            fits = far.1.fits;
-            leads = after_stores_on far.0 (first far.0) q.made ∙ (ap (λ (w : List ℕ). after_stores w q.made) far.1.leads ∙ mid.1.leads);
-            origin = mid.1.origin ∙ far.1.origin;
-          };
-        },
-      );
-  noted = λ k h. q.writes.noted k (p.noted k h);
-}
+pub prefix_each_then : (a b c : MemSeen) (first : List ℕ → List WordStore) (ts : List WordStore) → WritesEach a b first → WritesPrefix b c ts → WritesPrefixEach a c (λ words. first words ++ ts)
+prefix_each_then a b c first ts p q =
+    changes_then a b c (λ before words. Leads a b (first before) before words) (Leads b c q.made) (λ before words. LeadsPrefix a c (first before ++ ts) before words) p q.writes
+    (λ before mid words _ one two. record {
+      made = first before ++ q.made;
+      left = q.left;
+      parts = append_assoc (first before) q.made q.left ∙ ap (λ (stores : List WordStore). first before ++ stores) q.parts;
+      by = leads_append a b c (first before) q.made before mid words one two;
+    })
 
 -- all of the first stores for each list were made, and then none
-pub prefix_each_some : (a b c : MemSeen) (all first then : List ℕ → List (ℕ × ℕ)) → AreBoth all first then → WritesEach a b first → Reads b c → WritesPrefixEach a c all
-prefix_each_some a b c all first then both p q =
-    let writes = writes_for_reads a b c first p q in
-    record {
-      kept = writes.kept;
-      came = λ words fits.
-          let far = writes.came words fits in
-          (far.0, record { made = first far.0; left = then (after_stores far.0 (first far.0)); parts = sym (both far.0); by = far.1 });
-      noted = writes.noted;
-    }
+pub prefix_each_some : (a b c : MemSeen) (all first then : List ℕ → List WordStore) → AreJoined all first then → WritesEach a b first → Reads b c → WritesPrefixEach a c all
+prefix_each_some a b c all first then joined p q =
+    changes_reads a b c (λ before words. Leads a b (first before) before words) (λ before words. LeadsPrefix a c (all before) before words) p q
+    (λ before words leads. record {
+      made = first before;
+      left = then (after_stores before (first before));
+      parts = sym (joined before);
+      by = leads_reads a b c (first before) before words leads q;
+    })
 
 -- ---- in a memory that isn't guarded
 
 allowed_free : (setting : Setting) (plan : Option Change) (o words later : List ℕ) → setting.guarded ≡ false → IsAllowed setting plan o words later
 allowed_free setting plan o words later free guarded = let no : true ≡ false = sym guarded ∙ free in cc no
 
-allows_free : (setting : Setting) (plan : Option Change) (o words : List ℕ) (stores : List (ℕ × ℕ)) → setting.guarded ≡ false → AllowsAll setting plan o words stores
+allows_free : (setting : Setting) (plan : Option Change) (o words : List ℕ) (stores : List WordStore) → setting.guarded ≡ false → AllowsAll setting plan o words stores
 allows_free setting plan o words [] free = tt
-allows_free setting plan o words (s ∷ stores) free = (allowed_free setting plan o words (slice_set words s.0 s.1) free, allows_free setting plan o (slice_set words s.0 s.1) stores free)
+allows_free setting plan o words (s ∷ stores) free = (allowed_free setting plan o words (slice_set words s.at s.word) free, allows_free setting plan o (slice_set words s.at s.word) stores free)
 
 -- each store is allowed
 pub may_store_free : (m : MemSeen) (at word : ℕ) → m.setting.guarded ≡ false → MayStore m at word
 may_store_free m at word free words fits = allowed_free m.setting m.plan (origin m words) words (slice_set words at word) free
 
 -- and any stores
-pub may_store_all_free : (m : MemSeen) (stores : List (ℕ × ℕ)) → m.setting.guarded ≡ false → MayStoreAll m stores
+pub may_store_all_free : (m : MemSeen) (stores : List WordStore) → m.setting.guarded ≡ false → MayStoreAll m stores
 may_store_all_free m stores free words fits = allows_free m.setting m.plan (origin m words) words stores free
 
-pub may_store_each_free : (m : MemSeen) (stores : List ℕ → List (ℕ × ℕ)) → m.setting.guarded ≡ false → MayStoreEach m stores
+pub may_store_each_free : (m : MemSeen) (stores : List ℕ → List WordStore) → m.setting.guarded ≡ false → MayStoreEach m stores
 may_store_each_free m stores free words fits = allows_free m.setting m.plan (origin m words) words (stores words) free

@@ -23,7 +23,8 @@ use Rattle.cm_words.specs.Fuses.{FuseSeen}
 use Rattle.cm_words.specs.Plain.{new_plain}
 use Rattle.std.proofs.lemmas.List.{length-replicate}
 use Rattle.std.proofs.lemmas.List.FromFn.{fill_by_all}
-use Rattle.cm_words.specs.Effects.{Begins, MayStoreAll, Writes, after_stores, Reads}
+use Rattle.cm_words.specs.Effects.{Begins, Reads}
+use Rattle.cm_words.specs.Stores.{MayStoreAll, WordStore, Writes, after_stores, store_at}
 use Rattle.cm_words.specs.Trials.{AreCut, AreNew, KeepsTorn, StoresUnder, first_put}
 use Rattle.cm_words.proofs.MapPlaces.{number_inside}
 use Rattle.cm_words.proofs.PlainNotes.{noted_inside}
@@ -32,7 +33,7 @@ allowed_by : (setting : Setting) (plan : Option Change) (change : Change) (o wor
 allowed_by setting plan change o words at word e keeps guarded = subst (λ (p : Option Change). StaysTorn setting p o words (slice_set words at word)) (sym e) (λ state under. keeps words state under.torn)
 
 -- two stores that keep words torn for the plan under way may be made
-pub may_store_two : (m : MemSeen) (change : Change) (first one second other : ℕ) → m.plan ≡ Some change → KeepsTorn m.setting.geo change first one → KeepsTorn m.setting.geo change second other → MayStoreAll m ((first, one) ∷ (second, other) ∷ [])
+pub may_store_two : (m : MemSeen) (change : Change) (first one second other : ℕ) → m.plan ≡ Some change → KeepsTorn m.setting.geo change first one → KeepsTorn m.setting.geo change second other → MayStoreAll m (store_at first one ∷ store_at second other ∷ [])
 may_store_two m change first one second other e p q words fits =
     (allowed_by m.setting m.plan change (origin m words) words first one e p, (allowed_by m.setting m.plan change (origin m words) (slice_set words first one) second other e q, tt))
 
@@ -87,13 +88,13 @@ plans_first_put geo is state =
     }
 
 -- a change that began, and stores after that
-pub stores_under : (a b c : MemSeen) (change : Change) (stores : List (ℕ × ℕ)) → Begins a b change → Writes b c stores → StoresUnder a c change stores
+pub stores_under : (a b c : MemSeen) (change : Change) (stores : List WordStore) → Begins a b change → Writes b c stores → StoresUnder a c change stores
 stores_under a b c change stores begins writes = record {
   plan = writes.kept.plan ∙ begins.plan;
   came = λ words fits.
       let mid = writes.came words fits in
       let far = begins.came mid.0 mid.1.fits in
-      (far.0, record { fits = far.1.fits; leads = ap (λ (w : List ℕ). after_stores w stores) far.1.next ∙ mid.1.leads });
+      (far.0, record { fits = far.1.fits; leads = ap (λ (w : List ℕ). after_stores w stores) far.1.next ∙ mid.1.relates.leads });
 }
 
 -- the only words that fit new ones are zeros

@@ -51,5 +51,5 @@ SpendsBudget kind Die (Some budget) now = CountsFor kind budget × IsUsedUp 0 0 
 pub record Admits (kind : EventKind) (before now : FuseSeen) (answer : Admit) : Type 0 where
   pub never_begins : IsTrue now.can_die → IsTrue before.can_die
   pub go : answer ≡ Go → now.deaths ≡ before.deaths
-  pub die : answer ≡ Die → (before.deaths < now.deaths) × IsTrue before.can_die
+  pub die : answer ≡ Die → (now.deaths ≡ before.deaths + 1) × IsTrue before.can_die
   pub budget : SpendsBudget kind answer before.budget now.budget

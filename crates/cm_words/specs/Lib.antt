@@ -9,6 +9,7 @@ pub mod Parity
 pub mod Memory
 pub mod Effects
 pub mod Stores
+pub mod Calls
 pub mod Counts
 pub mod PlanCopies
 pub mod Notes

@@ -11,7 +11,7 @@ use Rattle.cm_plain.specs.Torn.{Torn}
 use Rattle.cm_words.specs.declared.access.Access.{Access}
 use Rattle.cm_words.specs.Meters.{MeterSeen}
 
--- the word that stands at a place now, and its first word: the one that stood there when the plan under way began, or, where the place was
+-- the word that stands at an address now, and its first word: the one that stood there when the plan under way began, or, where the address was
 -- noted later, the one that was found there. First words count while a plan is under way
 pub record Note : Type 0 where
   pub present : ℕ
@@ -25,7 +25,7 @@ pub record Setting : Type 0 where
   pub guarded : Bool
   pub shared : Bool
 
--- what a memory tells: besides, the plan under way, if any, a note of each place that it knows (but for the lock word of a shared memory),
+-- what a memory tells: besides, the plan under way, if any, a note of each address that it knows (but for the lock word of a shared memory),
 -- and its fuse with the counts of events and stores
 pub record MemSeen : Type 0 where
   pub setting : Setting
@@ -33,7 +33,7 @@ pub record MemSeen : Type 0 where
   pub noted : ℕ → Option Note
   pub meter : MeterSeen
 
--- a list fits the notes: it is the words of the segment, and each note's present word stands in its place
+-- a list fits the notes: it is the words of the segment, and each note's present word stands at its address
 pub record FitsNotes (m : MemSeen) (words : List ℕ) : Type 0 where
   pub are : IsSegmentWords m.setting.geo words
   pub present : (at : ℕ) (note : Note) → at < length words → m.noted at ≡ Some note → word_at words at ≡ note.present
@@ -43,7 +43,7 @@ abbrev pub first_or : Option Note → ℕ → ℕ
 first_or None word = word
 first_or (Some note) word = note.first
 
--- the origin of a list: the first word is put back at each place that is noted
+-- the origin of a list: the first word is put back at each address that is noted
 unfoldable pub origin : MemSeen → List ℕ → List ℕ
 origin m words = map (λ at. first_or (m.noted at) (word_at words at)) (range_with_len 0 (length words))
 
@@ -63,10 +63,14 @@ StaysTorn setting (Some change) origin words later =
 abbrev pub IsAllowed : Setting → Option Change → List ℕ → List ℕ → List ℕ → Type 0
 IsAllowed setting plan origin words later = IsTrue setting.guarded → StaysTorn setting plan origin words later
 
--- this word may be stored at this place: for each list that fits the notes, the one after the store is allowed
+-- this word may be stored at this address: for each list that fits the notes, the one after the store is allowed
 abbrev pub MayStore : MemSeen → ℕ → ℕ → Type 0
 MayStore m at word =
     (words : List ℕ) → FitsNotes m words → IsAllowed m.setting m.plan (origin m words) words (slice_set words at word)
+
+-- nothing was stored under the plan yet: each list that fits is its own origin
+abbrev pub IsFresh : MemSeen → Type 0
+IsFresh m = (words : List ℕ) → FitsNotes m words → origin m words ≡ words
 
 -- the change number is noted; in each list that fits the notes it is even and not the last
 pub record HasEvenNumber (m : MemSeen) : Type 0 where

@@ -22,14 +22,14 @@ pub record Survives (old now : MeterSeen) : Type 0 where
   pub deaths : now.fuse.deaths ≡ old.fuse.deaths
   pub budget : CountsDown old.events old.stores now.events now.stores old.fuse.budget now.fuse.budget
 
--- an event died behind those that were counted: the number that the fuse told was used up by these
+-- an event died after those that were counted: the budget that the fuse told was used up by these, and the fuse died once
 pub record IsKilled (old now : MeterSeen) : Type 0 where
   pub events : old.events ≤ now.events
   pub stores : old.stores ≤ now.stores
   pub stores_within : now.stores + old.events ≤ now.events + old.stores
   pub never_begins : IsTrue now.fuse.can_die → IsTrue old.fuse.can_die
   pub could : IsTrue old.fuse.can_die
-  pub deaths : old.fuse.deaths < now.fuse.deaths
+  pub deaths : now.fuse.deaths ≡ old.fuse.deaths + 1
   pub budget : IsUsedUp old.events old.stores now.events now.stores old.fuse.budget now.fuse.budget
 
 -- a call answers Dead exactly where one of its events died

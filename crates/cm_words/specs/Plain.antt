@@ -9,13 +9,13 @@ use Rattle.cm_words.specs.Metered.{meter_seen}
 use Rattle.cm_words.specs.Memory.{MemSeen}
 use Rattle.cm_words.specs.Maps.{MapWords, rest_of, words_before}
 use Rattle.cm_words.specs.Notes.{notes_in}
-use Rattle.cm_words.specs.PlanCopies.{copied_plan}
+use Rattle.cm_words.specs.PlanCopies.{plan_under_way}
 
 -- what it tells
 abbrev pub plain_seen : {F : Type 0} {g : _} → (F → FuseSeen) → PlainMem F g → MemSeen
 plain_seen fused m = record {
   setting = record { geo = m.words.now.geo; segment = m.segment; access = Writable; guarded = m.is_guarded; shared = false };
-  plan = copied_plan m.plan;
+  plan = plan_under_way m.is_under_way m.plan;
   noted = notes_in m.words.now.geo m.start m.words.now.words m.first.value.words;
   meter = meter_seen fused m.meter;
 }

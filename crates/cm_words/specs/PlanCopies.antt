@@ -1,24 +1,29 @@
 -- What a copy of a plan tells (own).
-use Rattle.std.specs.Prelude.{Option, Some, None}
+use Rattle.std.specs.Prelude.{Bool, true, false, Option, Some, None}
 use Rattle.cm_plain.specs.declared.op.Op.{Op}
 use Rattle.cm_plain.specs.declared.op.Op.TheVariants as op
 use Rattle.cm_plain.specs.Changes.{Change}
 use Rattle.cm_words.specs.declared.plan_copy.AskCopy.{AskCopy}
-use Rattle.cm_words.specs.declared.plan_copy.AskCopy.TheVariants.{Put, Get, PutIfAbsent, Replace, ReplaceIf, Remove, RemoveIf, Count, List, Sweep}
+use Rattle.cm_words.specs.declared.plan_copy.AskKind.{AskKind}
+use Rattle.cm_words.specs.declared.plan_copy.AskKind.TheVariants.{Put, Get, PutIfAbsent, Replace, ReplaceIf, Remove, RemoveIf, Count, List, Sweep}
 use Rattle.cm_words.specs.declared.plan_copy.PlanCopy.{PlanCopy}
+
+-- the operation of a kind, with the bytes that it has
+abbrev pub op_of_kind : AskKind → AskCopy → Op
+op_of_kind Put ask = op.Put ask.key ask.value
+op_of_kind Get ask = op.Get ask.key
+op_of_kind PutIfAbsent ask = op.PutIfAbsent ask.key ask.value
+op_of_kind Replace ask = op.Replace ask.key ask.value
+op_of_kind ReplaceIf ask = op.ReplaceIf ask.key ask.expected ask.value
+op_of_kind Remove ask = op.Remove ask.key
+op_of_kind RemoveIf ask = op.RemoveIf ask.key ask.expected
+op_of_kind Count ask = op.Count ask.segment
+op_of_kind List ask = op.List ask.segment
+op_of_kind Sweep ask = op.Sweep ask.segment ask.key
 
 -- the operation that was asked for
 abbrev pub copied_op : AskCopy → Op
-copied_op (Put key value) = op.Put key value
-copied_op (Get key) = op.Get key
-copied_op (PutIfAbsent key value) = op.PutIfAbsent key value
-copied_op (Replace key value) = op.Replace key value
-copied_op (ReplaceIf key expected value) = op.ReplaceIf key expected value
-copied_op (Remove key) = op.Remove key
-copied_op (RemoveIf key expected) = op.RemoveIf key expected
-copied_op (Count segment) = op.Count segment
-copied_op (List segment) = op.List segment
-copied_op (Sweep segment prefix) = op.Sweep segment prefix
+copied_op ask = op_of_kind ask.kind ask
 
 -- the change of the plan
 abbrev pub copied_change : PlanCopy → Change
@@ -27,11 +32,12 @@ copied_change plan = record {
   kind = plan.kind;
   key = plan.key;
   value = plan.value;
-  old_run = plan.old;
-  new_run = plan.new;
+  old_run = plan.old_run;
+  new_run = plan.new_run;
   link = plan.link;
 }
 
-abbrev pub copied_plan : Option PlanCopy → Option Change
-copied_plan None = None
-copied_plan (Some plan) = Some (copied_change plan)
+-- the change of the plan that is under way, if one is
+abbrev pub plan_under_way : Bool → PlanCopy → Option Change
+plan_under_way true plan = Some (copied_change plan)
+plan_under_way false plan = None

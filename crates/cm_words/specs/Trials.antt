@@ -12,19 +12,19 @@ use Rattle.cm_plain.specs.Torn.{Torn}
 use Rattle.cm_words.specs.Maps.{MapWords, number_word, words_before}
 use Rattle.cm_words.specs.Parity.{IsEven}
 use Rattle.cm_words.specs.Memory.{FitsNotes, MemSeen}
-use Rattle.cm_words.specs.Effects.{after_stores}
+use Rattle.cm_words.specs.Stores.{WordStore, after_stores}
 
 -- a store keeps words torn for a change, whatever state they lie behind
 abbrev pub KeepsTorn : Geo → Change → ℕ → ℕ → Type 0
 KeepsTorn geo change at word = (words : List ℕ) (state : State) → Torn geo words state change → Torn geo (slice_set words at word) state change
 
 -- these words are those from before with the next change number and then these stores
-pub record CameUnder (old : MemSeen) (stores : List (ℕ × ℕ)) (before words : List ℕ) : Type 0 where
+pub record CameUnder (old : MemSeen) (stores : List WordStore) (before words : List ℕ) : Type 0 where
   pub fits : FitsNotes old before
   pub leads : after_stores (slice_set before 1 (word_at before 1 + 1)) stores ≡ words
 
 -- a change is under way, and these stores were made
-pub record StoresUnder (old now : MemSeen) (change : Change) (stores : List (ℕ × ℕ)) : Type 0 where
+pub record StoresUnder (old now : MemSeen) (change : Change) (stores : List WordStore) : Type 0 where
   pub plan : now.plan ≡ Some change
   pub came : (words : List ℕ) → FitsNotes now words → (before : List ℕ) × CameUnder old stores before words
 

@@ -9,7 +9,7 @@ use crate::meter::Meter;
 use crate::words::Words;
 use cm_plain::Plan;
 
-/// A memory over one segment of words that nobody changes. It is `Readable`, notes every place, has no
+/// A memory over one segment of words that nobody changes. It is `Readable`, notes every address, has no
 /// plan and can't die.
 #[derive(Drop)]
 pub struct FixedMem<'a> {
@@ -43,8 +43,8 @@ impl<'a> FixedMem<'a> {
         }
     }
 
-    /// The place in the map of a place of the segment.
-    fn place(&self, at: u32) -> u32
+    /// The address in the map of an address of the segment.
+    fn address(&self, at: u32) -> u32
         requires { at < words_in_segment self.now.words.now.geo }
         ensures value { result ≡ self.now.start + at }
         ensures in_range { result < words_in_map self.now.words.now.geo }
@@ -76,14 +76,14 @@ impl<'a> Mem for FixedMem<'a> {
 
     fn load(&mut self, at: u32) -> Result<u64, Dead> {
         self.meter.ask(EventKind::Load)?;
-        let place = self.place(at);
-        Ok(self.words.get(place))
+        let address = self.address(at);
+        Ok(self.words.get(address))
     }
 
     fn number(&mut self) -> Result<u64, Dead> {
         self.meter.ask(EventKind::Load)?;
-        let place = self.place(1);
-        Ok(self.words.get(place) / 2)
+        let address = self.address(1);
+        Ok(self.words.get(address) / 2)
     }
 
     // Nobody stores here, since the memory is never `Writable`: these three do nothing.

@@ -1,14 +1,15 @@
 //! The memory of one segment, on which every layer works.
 
-ghost use Rattle.std.specs.Prelude.{◌≡◌, ◌≢◌, ◌<◌, IfOk, OnOk, OnErr, IsSome, IsTrue, None, Some, ℕ, [], ◌∷◌};
+ghost use Rattle.std.specs.Prelude.{◌≡◌, ◌≢◌, ◌<◌, IfOk, OnOk, OnErr, IsSome, IsTrue, None, Some, ℕ};
 ghost use Rattle.cm_geo.specs.Addresses.{words_in_segment};
 ghost use Rattle.cm_plain.specs.Changes.{Change};
 ghost use Rattle.cm_plain.specs.Plans.{IsShort, plan_change};
 ghost use Rattle.cm_words.specs.declared.access.Access.TheVariants.{Closed, Writable};
-ghost use Rattle.cm_words.specs.declared.fuse.EventKind.TheVariants.{Load, Store};
+ghost use Rattle.cm_words.specs.declared.fuse.EventKind.TheVariants.{Store};
 ghost use Rattle.cm_words.specs.Memory.{HasEvenNumber, IsDone, IsPlanHere, MayStore, MemSeen};
-ghost use Rattle.cm_words.specs.Meters.{ReportsDeath, MakesEvent};
-ghost use Rattle.cm_words.specs.Effects.{Begins, Finishes, IsAsBefore, Reads, Knows, KnowsNumber, Writes};
+ghost use Rattle.cm_words.specs.Meters.{MakesEvent, ReportsDeath};
+ghost use Rattle.cm_words.specs.Effects.{Begins, Finishes, IsAsBefore, Knows, KnowsNumber};
+ghost use Rattle.cm_words.specs.Calls.{LoadsOnce, PerformsOnce, StoresOnce};
 
 use crate::fuse::Dead;
 use cm_plain::Plan;
@@ -17,7 +18,7 @@ use cm_plain::Plan;
 ///
 /// A memory tells its geometry and its segment, how it may be used, the plan under way, notes of the
 /// words that it loaded or stored, its fuse, and how many events and stores were counted. Contracts
-/// speak of each list of words that fits the notes. Places are counted from the segment's first word.
+/// speak of each list of words that fits the notes. Addresses are counted from the segment's first word.
 /// Every call answers `Dead` exactly where its fuse died in place of an event, and then this event
 /// wasn't made.
 pub trait Mem {
@@ -30,18 +31,14 @@ pub trait Mem {
 
     ghost rest_with: { Self → Self → Change → ℕ → Type 0 };
 
-    /// The word at a place.
+    /// The word at an address.
     fn load(&mut self, at: u32) -> Result<u64, Dead>
         requires open { (seen self.old).setting.access ≢ Closed }
         requires in_range { at < words_in_segment (seen self.old).setting.geo }
-        ensures rest { same_rest self.old self.new }
-        ensures fuse { ReportsDeath (seen self.old).meter (seen self.new).meter result }
-        ensures event { MakesEvent Load (seen self.old).meter (seen self.new).meter result }
-        ensures reads { Reads (seen self.old) (seen self.new) }
-        ensures word { IfOk result (Knows (seen self.new) at) }
-        ensures dead { OnErr result (IsAsBefore (seen self.old) (seen self.new)) };
+        ensures loads { LoadsOnce seen same_rest self.old self.new result }
+        ensures word { IfOk result (Knows (seen self.new) at) };
 
-    /// Sets the word at a place behind the lock word and the change number; all others stay.
+    /// Sets the word at an address behind the lock word and the change number; all others stay.
     ///
     /// A guarded memory is stored in under a plan alone, and each store has to leave the words torn for
     /// this plan, so that recovery finds the state before or after it.
@@ -50,23 +47,15 @@ pub trait Mem {
         requires in_range { at < words_in_segment (seen self.old).setting.geo }
         requires inner { 1 < at }
         requires allowed { MayStore (seen self.old) at word }
-        ensures rest { same_rest self.old self.new }
-        ensures fuse { ReportsDeath (seen self.old).meter (seen self.new).meter result }
-        ensures event { MakesEvent Store (seen self.old).meter (seen self.new).meter result }
-        ensures writes { OnOk result (Writes (seen self.old) (seen self.new) ((at, word) ∷ [])) }
-        ensures word { OnOk result (Knows (seen self.new) at word) }
-        ensures dead { OnErr result (IsAsBefore (seen self.old) (seen self.new)) };
+        ensures stores { StoresOnce seen same_rest at word self.old self.new result }
+        ensures word { OnOk result (Knows (seen self.new) at word) };
 
     /// Half of the change number, by one load: how many changes the segment took.
     fn number(&mut self) -> Result<u64, Dead>
         requires open { (seen self.old).setting.access ≢ Closed }
         requires idle { (seen self.old).plan ≡ None }
-        ensures rest { same_rest self.old self.new }
-        ensures fuse { ReportsDeath (seen self.old).meter (seen self.new).meter result }
-        ensures event { MakesEvent Load (seen self.old).meter (seen self.new).meter result }
-        ensures reads { Reads (seen self.old) (seen self.new) }
-        ensures number { IfOk result (KnowsNumber (seen self.new)) }
-        ensures dead { OnErr result (IsAsBefore (seen self.old) (seen self.new)) };
+        ensures loads { LoadsOnce seen same_rest self.old self.new result }
+        ensures number { IfOk result (KnowsNumber (seen self.new)) };
 
     /// Begins a change: stores the next change number, which is odd, and the plan is under way.
     fn begin(&mut self, plan: &Plan<'_>) -> Result<(), Dead>
@@ -75,11 +64,7 @@ pub trait Mem {
         requires within_limits { IsShort (plan_change plan.now) }
         requires number { HasEvenNumber (seen self.old) }
         requires planned { IsPlanHere (seen self.old) (plan_change plan.now) }
-        ensures rest { same_rest self.old self.new }
-        ensures fuse { ReportsDeath (seen self.old).meter (seen self.new).meter result }
-        ensures event { MakesEvent Store (seen self.old).meter (seen self.new).meter result }
-        ensures begins { OnOk result (Begins (seen self.old) (seen self.new) (plan_change plan.now)) }
-        ensures dead { OnErr result (IsAsBefore (seen self.old) (seen self.new)) };
+        ensures begins { PerformsOnce seen same_rest Store (λ old now. Begins old now (plan_change plan.now)) self.old self.new result };
 
     /// Ends the change: stores the next change number, which is even, and answers its half.
     fn finish(&mut self) -> Result<u64, Dead>

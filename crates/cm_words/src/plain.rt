@@ -1,6 +1,6 @@
 //! A memory over one segment of words that nobody else uses.
 
-ghost use Rattle.std.specs.Prelude.{◌≡◌, ◌<◌, ◌^◌, ◌+◌, All, true, false, is_some, slice_index};
+ghost use Rattle.std.specs.Prelude.{◌≡◌, ◌<◌, ◌^◌, ◌+◌, All, true, false, slice_index};
 ghost use Rattle.cm_geo.specs.Addresses.{words_in_map, words_in_segment};
 ghost use Rattle.cm_words.specs.Maps.{IsWhole, number_word, words_before};
 ghost use Rattle.cm_words.specs.Parity.{IsEven, IsOdd};
@@ -13,7 +13,7 @@ use crate::words::Words;
 use cm_plain::Plan;
 use std::snapshot::Snapshot;
 
-/// A memory over one segment of words, for one thread. It is `Writable`, notes every place, and makes
+/// A memory over one segment of words, for one thread. It is `Writable`, notes every address, and makes
 /// one event a call.
 pub struct PlainMem<'a, F: Fuse> {
     words: &'a mut Words,
@@ -22,15 +22,17 @@ pub struct PlainMem<'a, F: Fuse> {
     start: u32,
     is_guarded: bool,
     meter: Meter<F>,
-    plan: Option<PlanCopy>,
+    is_under_way: bool,
+    // the plan that is under way, or the one that was last
+    plan: PlanCopy,
     // the words as the plan under way began, for contracts alone
     first: Snapshot<Words>,
     pub ghost here: { segment < words.now.geo.segments },
     pub ghost starts: { start ≡ words_before words.now.geo segment },
     pub ghost whole: { IsWhole words.now },
     pub ghost fit: { All (λ word. word < 2 ^ 64) words.now.words },
-    pub ghost odd: { is_some plan ≡ true → IsOdd (slice_index words.now.words (start + 1)) },
-    pub ghost even: { is_guarded ≡ true → is_some plan ≡ false → IsEven (slice_index words.now.words (start + 1)) },
+    pub ghost odd: { is_under_way ≡ true → IsOdd (slice_index words.now.words (start + 1)) },
+    pub ghost even: { is_guarded ≡ true → is_under_way ≡ false → IsEven (slice_index words.now.words (start + 1)) },
 }
 
 impl<'a, F: Fuse> PlainMem<'a, F> {
@@ -51,7 +53,8 @@ impl<'a, F: Fuse> PlainMem<'a, F> {
             segment,
             is_guarded: true,
             meter: Meter::new(fuse),
-            plan: None,
+            is_under_way: false,
+            plan: PlanCopy::new(),
         }
     }
 
@@ -69,12 +72,13 @@ impl<'a, F: Fuse> PlainMem<'a, F> {
             segment,
             is_guarded: false,
             meter: Meter::new(fuse),
-            plan: None,
+            is_under_way: false,
+            plan: PlanCopy::new(),
         }
     }
 
-    /// The place in the map of a place of the segment.
-    fn place(&self, at: u32) -> u32
+    /// The address in the map of an address of the segment.
+    fn address(&self, at: u32) -> u32
         requires { at < words_in_segment self.now.words.now.geo }
         ensures value { result ≡ self.now.start + at }
         ensures in_range { result < words_in_map self.now.words.now.geo }
@@ -94,6 +98,7 @@ impl<'a, F: Fuse> Drop for PlainMem<'a, F> {
             start: _,
             is_guarded: _,
             meter: _,
+            is_under_way: _,
             plan: _,
             first: _,
         } = self;
@@ -123,39 +128,40 @@ impl<'a, F: Fuse> Mem for PlainMem<'a, F> {
 
     fn load(&mut self, at: u32) -> Result<u64, Dead> {
         self.meter.ask(EventKind::Load)?;
-        let place = self.place(at);
-        Ok(self.words.get(place))
+        let address = self.address(at);
+        Ok(self.words.get(address))
     }
 
     fn store(&mut self, at: u32, word: u64) -> Result<(), Dead> {
         self.meter.ask(EventKind::Store)?;
-        let place = self.place(at);
-        self.words.set(place, word);
+        let address = self.address(at);
+        self.words.set(address, word);
         Ok(())
     }
 
     fn number(&mut self) -> Result<u64, Dead> {
         self.meter.ask(EventKind::Load)?;
-        let place = self.place(1);
-        Ok(self.words.get(place) / 2)
+        let address = self.address(1);
+        Ok(self.words.get(address) / 2)
     }
 
     fn begin(&mut self, plan: &Plan<'_>) -> Result<(), Dead> {
         self.meter.ask(EventKind::Store)?;
-        let place = self.place(1);
-        let even = self.words.get(place);
-        self.words.set(place, even + 1);
+        let address = self.address(1);
+        let even = self.words.get(address);
+        self.words.set(address, even + 1);
         self.first = Snapshot::of(self.words);
-        self.plan = Some(PlanCopy::of(plan));
+        self.plan.set(plan);
+        self.is_under_way = true;
         Ok(())
     }
 
     fn finish(&mut self) -> Result<u64, Dead> {
         self.meter.ask(EventKind::Store)?;
-        let place = self.place(1);
-        let odd = self.words.get(place);
-        self.words.set(place, odd + 1);
-        self.plan = None;
+        let address = self.address(1);
+        let odd = self.words.get(address);
+        self.words.set(address, odd + 1);
+        self.is_under_way = false;
         Ok((odd + 1) / 2)
     }
 }

@@ -1,6 +1,7 @@
-//! Copies of plans, which take no memory from the heap.
+//! Copies of plans, in arrays that lie in the memory from the start: a copy takes no memory from the heap, and
+//! moves the bytes alone that there are.
 
-ghost use Rattle.std.specs.Prelude.{◌≡◌, ◌≤◌, length};
+ghost use Rattle.std.specs.Prelude.{◌≡◌, ◌≤◌, [], length};
 ghost use Rattle.cm_plain.specs.Plans.{IsShort, IsShortOp, op_of_ask, plan_change};
 ghost use Rattle.cm_words.specs.PlanCopies.{copied_change, copied_op};
 
@@ -9,12 +10,12 @@ use std::marker::Model;
 
 /// A list of at most N bytes in an array.
 #[derive(Drop)]
-pub(crate) struct Kept<const N: usize> {
+pub(crate) struct ByteArray<const N: usize> {
     bytes: [u8; N],
     len: usize,
 }
 
-impl<const N: usize> Model for Kept<N> {
+impl<const N: usize> Model for ByteArray<N> {
     ghost use Rattle.std.specs.Prelude.{List, ℕ, take, ◌≤◌};
 
     ghost Value = { List ℕ };
@@ -24,101 +25,119 @@ impl<const N: usize> Model for Kept<N> {
     ghost invariant = { λ k. k.len ≤ N };
 }
 
-impl<const N: usize> Kept<N> {
-    fn of(source: &[u8]) -> Kept<N>
-        requires { length source.now ≤ N }
-        ensures { result ≡ source.now }
+impl<const N: usize> ByteArray<N> {
+    /// No bytes.
+    fn new() -> ByteArray<N>
+        ensures { result ≡ [] }
     {
-        let mut bytes = [0; N];
-        bytes[..source.len()].copy_from_slice(source);
-        Kept {
-            bytes,
-            len: source.len(),
+        ByteArray {
+            bytes: [0; N],
+            len: 0,
         }
+    }
+
+    /// These bytes, in place of those that were there.
+    fn set(&mut self, source: &[u8])
+        requires { length source.now ≤ N }
+        ensures { self.new ≡ source.now }
+    {
+        self.bytes[..source.len()].copy_from_slice(source);
+        self.len = source.len();
     }
 }
 
-/// What is asked, with bytes of its own.
+/// Which operation was asked for.
+#[derive(Clone, Copy)]
+pub(crate) enum AskKind {
+    Put,
+    Get,
+    PutIfAbsent,
+    Replace,
+    ReplaceIf,
+    Remove,
+    RemoveIf,
+    Count,
+    List,
+    Sweep,
+}
+
+/// What is asked, with bytes of its own. A sweep's prefix stands in place of a key.
 #[derive(Drop)]
-pub(crate) enum AskCopy {
-    Put {
-        key: Kept<256>,
-        value: Kept<4096>,
-    },
-    Get {
-        key: Kept<256>,
-    },
-    PutIfAbsent {
-        key: Kept<256>,
-        value: Kept<4096>,
-    },
-    Replace {
-        key: Kept<256>,
-        value: Kept<4096>,
-    },
-    ReplaceIf {
-        key: Kept<256>,
-        expected: Kept<4096>,
-        value: Kept<4096>,
-    },
-    Remove {
-        key: Kept<256>,
-    },
-    RemoveIf {
-        key: Kept<256>,
-        expected: Kept<4096>,
-    },
-    Count {
-        segment: u32,
-    },
-    List {
-        segment: u32,
-    },
-    Sweep {
-        segment: u32,
-        prefix: Kept<256>,
-    },
+pub(crate) struct AskCopy {
+    kind: AskKind,
+    key: ByteArray<256>,
+    expected: ByteArray<4096>,
+    value: ByteArray<4096>,
+    segment: u32,
 }
 
 impl AskCopy {
-    fn of(ask: &Ask<'_>) -> AskCopy
+    fn new() -> AskCopy {
+        AskCopy {
+            kind: AskKind::Get,
+            key: ByteArray::new(),
+            expected: ByteArray::new(),
+            value: ByteArray::new(),
+            segment: 0,
+        }
+    }
+
+    fn set(&mut self, ask: &Ask<'_>)
         requires { IsShortOp (op_of_ask ask.now) }
-        ensures { copied_op result ≡ op_of_ask ask.now }
+        ensures { copied_op self.new ≡ op_of_ask ask.now }
     {
         match ask {
-            Ask::Put { key, value } => AskCopy::Put {
-                key: Kept::of(key),
-                value: Kept::of(value),
-            },
-            Ask::Get { key } => AskCopy::Get { key: Kept::of(key) },
-            Ask::PutIfAbsent { key, value } => AskCopy::PutIfAbsent {
-                key: Kept::of(key),
-                value: Kept::of(value),
-            },
-            Ask::Replace { key, value } => AskCopy::Replace {
-                key: Kept::of(key),
-                value: Kept::of(value),
-            },
+            Ask::Put { key, value } => {
+                self.kind = AskKind::Put;
+                self.key.set(key);
+                self.value.set(value);
+            }
+            Ask::Get { key } => {
+                self.kind = AskKind::Get;
+                self.key.set(key);
+            }
+            Ask::PutIfAbsent { key, value } => {
+                self.kind = AskKind::PutIfAbsent;
+                self.key.set(key);
+                self.value.set(value);
+            }
+            Ask::Replace { key, value } => {
+                self.kind = AskKind::Replace;
+                self.key.set(key);
+                self.value.set(value);
+            }
             Ask::ReplaceIf {
                 key,
                 expected,
                 value,
-            } => AskCopy::ReplaceIf {
-                key: Kept::of(key),
-                expected: Kept::of(expected),
-                value: Kept::of(value),
-            },
-            Ask::Remove { key } => AskCopy::Remove { key: Kept::of(key) },
-            Ask::RemoveIf { key, expected } => AskCopy::RemoveIf {
-                key: Kept::of(key),
-                expected: Kept::of(expected),
-            },
-            Ask::Count { segment } => AskCopy::Count { segment: *segment },
-            Ask::List { segment } => AskCopy::List { segment: *segment },
-            Ask::Sweep { segment, prefix } => AskCopy::Sweep {
-                segment: *segment,
-                prefix: Kept::of(prefix),
-            },
+            } => {
+                self.kind = AskKind::ReplaceIf;
+                self.key.set(key);
+                self.expected.set(expected);
+                self.value.set(value);
+            }
+            Ask::Remove { key } => {
+                self.kind = AskKind::Remove;
+                self.key.set(key);
+            }
+            Ask::RemoveIf { key, expected } => {
+                self.kind = AskKind::RemoveIf;
+                self.key.set(key);
+                self.expected.set(expected);
+            }
+            Ask::Count { segment } => {
+                self.kind = AskKind::Count;
+                self.segment = *segment;
+            }
+            Ask::List { segment } => {
+                self.kind = AskKind::List;
+                self.segment = *segment;
+            }
+            Ask::Sweep { segment, prefix } => {
+                self.kind = AskKind::Sweep;
+                self.segment = *segment;
+                self.key.set(prefix);
+            }
         }
     }
 }
@@ -128,26 +147,38 @@ impl AskCopy {
 pub(crate) struct PlanCopy {
     ask: AskCopy,
     kind: PlanKind,
-    key: Kept<256>,
-    value: Kept<4096>,
-    old: Option<Run>,
-    new: Option<Run>,
+    key: ByteArray<256>,
+    value: ByteArray<4096>,
+    old_run: Option<Run>,
+    new_run: Option<Run>,
     link: bool,
 }
 
 impl PlanCopy {
-    pub(crate) fn of(plan: &Plan<'_>) -> PlanCopy
-        requires { IsShort (plan_change plan.now) }
-        ensures { copied_change result ≡ plan_change plan.now }
-    {
+    /// A copy of no plan yet.
+    pub(crate) fn new() -> PlanCopy {
         PlanCopy {
-            ask: AskCopy::of(&plan.ask),
-            kind: plan.kind,
-            key: Kept::of(plan.key),
-            value: Kept::of(plan.value),
-            old: plan.old,
-            new: plan.new,
-            link: plan.link,
+            ask: AskCopy::new(),
+            kind: PlanKind::Fresh,
+            key: ByteArray::new(),
+            value: ByteArray::new(),
+            old_run: None,
+            new_run: None,
+            link: false,
         }
+    }
+
+    /// Copies a plan.
+    pub(crate) fn set(&mut self, plan: &Plan<'_>)
+        requires { IsShort (plan_change plan.now) }
+        ensures { copied_change self.new ≡ plan_change plan.now }
+    {
+        self.ask.set(&plan.ask);
+        self.kind = plan.kind;
+        self.key.set(plan.key);
+        self.value.set(plan.value);
+        self.old_run = plan.old;
+        self.new_run = plan.new;
+        self.link = plan.link;
     }
 }

@@ -1,12 +1,12 @@
 //! Values worked out by hand, and callers that know of a memory what its trait says.
 
-ghost use Rattle.std.specs.Prelude.{◌≡◌, ◌≢◌, ◌<◌, IfSome, None, OnOk, OnErr, [], ◌∷◌};
-ghost use Rattle.cm_geo.specs.Addresses.{words_in_map, words_in_segment};
-ghost use Rattle.cm_words.specs.declared.access.Access.TheVariants.{Closed, Writable};
-ghost use Rattle.cm_words.specs.Meters.{ReportsDeath};
+ghost use Rattle.std.specs.Prelude.{◌≡◌, ◌+◌, ◌<◌, None, OnOk, true, [], ◌∷◌};
+ghost use Rattle.cm_geo.specs.Addresses.{words_in_segment};
 ghost use Rattle.cm_plain.specs.Plans.{IsShort, plan_change};
+ghost use Rattle.cm_words.specs.Meters.{ReportsDeath};
 ghost use Rattle.cm_words.specs.Memory.{HasEvenNumber, IsPlanHere};
-ghost use Rattle.cm_words.specs.Effects.{MayStoreAll, Writes, WritesPrefix, after_stores};
+ghost use Rattle.cm_words.specs.Stores.{MayStoreAll, after_stores, store_at};
+ghost use Rattle.cm_words.specs.Calls.{IsWritable, StoresAll};
 ghost use Rattle.cm_words.specs.Maps.{rest_of, segment_in};
 ghost use Rattle.cm_words.specs.Trials.{AreCut, AreNew, KeepsTorn, StoresUnder, first_put};
 
@@ -17,50 +17,77 @@ use std::alloc::Global;
 use std::process::Abort;
 use std::test::Fail;
 
-/// Two stores.
-fn store_two<M: Mem>(mem: &mut M, first: u32, one: u64, second: u32, other: u64) -> Result<(), Dead>
-    requires writable { (M.seen mem.old).setting.access ≡ Writable }
-    requires first { 1 < first }
-    requires first_in { first < words_in_segment (M.seen mem.old).setting.geo }
-    requires second { 1 < second }
-    requires second_in { second < words_in_segment (M.seen mem.old).setting.geo }
-    requires allowed { MayStoreAll (M.seen mem.old) ((first, one) ∷ (second, other) ∷ []) }
-    ensures rest { M.same_rest mem.old mem.new }
-    ensures fuse { ReportsDeath (M.seen mem.old).meter (M.seen mem.new).meter result }
-    ensures writes { OnOk result (Writes (M.seen mem.old) (M.seen mem.new) ((first, one) ∷ (second, other) ∷ [])) }
-    ensures dead { OnErr result (WritesPrefix (M.seen mem.old) (M.seen mem.new) ((first, one) ∷ (second, other) ∷ [])) }
+/// Loads a word, stores another one, and answers the word that was loaded.
+fn load_then_store<M: Mem>(
+    mem: &mut M,
+    geo: &Geo,
+    from: u32,
+    at: u32,
+    word: u64,
+) -> Result<u64, Dead>
+    requires writable { IsWritable (M.seen mem.old) geo.now }
+    requires from { from < words_in_segment geo.now }
+    requires inner { 1 < at }
+    requires in_range { at < words_in_segment geo.now }
+    requires allowed { MayStoreAll (M.seen mem.old) (store_at at word ∷ []) }
+    ensures stores { StoresAll M.seen M.same_rest (store_at at word ∷ []) mem.old mem.new result }
+    ensures events { OnOk result ((M.seen mem.new).meter.events ≡ (M.seen mem.old).meter.events + 2) }
 {
-    mem.store(first, one)?;
-    mem.store(second, other)?;
+    let found = mem.load(from)?;
+    mem.store(at, word)?;
+    Ok(found)
+}
+
+/// Two loads and two stores, by two calls over the memory.
+fn store_two<M: Mem>(
+    mem: &mut M,
+    geo: &Geo,
+    first: u32,
+    one: u64,
+    second: u32,
+    other: u64,
+) -> Result<(), Dead>
+    requires writable { IsWritable (M.seen mem.old) geo.now }
+    requires first { 1 < first }
+    requires first_in { first < words_in_segment geo.now }
+    requires second { 1 < second }
+    requires second_in { second < words_in_segment geo.now }
+    requires allowed { MayStoreAll (M.seen mem.old) (store_at first one ∷ store_at second other ∷ []) }
+    ensures stores { StoresAll M.seen M.same_rest (store_at first one ∷ store_at second other ∷ []) mem.old mem.new result }
+    ensures events { OnOk result ((M.seen mem.new).meter.events ≡ (M.seen mem.old).meter.events + 4) }
+{
+    load_then_store(mem, geo, second, first, one)?;
+    load_then_store(mem, geo, first, second, other)?;
     Ok(())
 }
 
-/// Begins a change, and makes two stores of it.
+/// Begins a change, and makes two loads and two stores under it.
 fn begin_and_store<M: Mem>(
     mem: &mut M,
+    geo: &Geo,
     plan: &Plan<'_>,
     first: u32,
     one: u64,
     second: u32,
     other: u64,
 ) -> Result<(), Dead>
-    requires writable { (M.seen mem.old).setting.access ≡ Writable }
+    requires writable { IsWritable (M.seen mem.old) geo.now }
     requires idle { (M.seen mem.old).plan ≡ None }
     requires within_limits { IsShort (plan_change plan.now) }
     requires number { HasEvenNumber (M.seen mem.old) }
     requires planned { IsPlanHere (M.seen mem.old) (plan_change plan.now) }
     requires first { 1 < first }
-    requires first_in { first < words_in_segment (M.seen mem.old).setting.geo }
+    requires first_in { first < words_in_segment geo.now }
     requires second { 1 < second }
-    requires second_in { second < words_in_segment (M.seen mem.old).setting.geo }
+    requires second_in { second < words_in_segment geo.now }
     requires first_kept { KeepsTorn (M.seen mem.old).setting.geo (plan_change plan.now) first one }
     requires second_kept { KeepsTorn (M.seen mem.old).setting.geo (plan_change plan.now) second other }
     ensures rest { M.same_rest mem.old mem.new }
     ensures fuse { ReportsDeath (M.seen mem.old).meter (M.seen mem.new).meter result }
-    ensures stored { OnOk result (StoresUnder (M.seen mem.old) (M.seen mem.new) (plan_change plan.now) ((first, one) ∷ (second, other) ∷ [])) }
+    ensures stored { OnOk result (StoresUnder (M.seen mem.old) (M.seen mem.new) (plan_change plan.now) (store_at first one ∷ store_at second other ∷ [])) }
 {
     mem.begin(plan)?;
-    store_two(mem, first, one, second, other)?;
+    store_two(mem, geo, first, one, second, other)?;
     Ok(())
 }
 
@@ -118,7 +145,39 @@ fn a_fuse_dies_in_place_of_each_event_that_it_counts(rt: HostRuntime) {
     assert!(rt; answers(&mut Never).iter().all(|answer| *answer == 'g'));
 }
 
-/// The words of the only segment of a map of one tier, with these at their places and zeros elsewhere.
+/// A fuse that dies at exchanges alone, and tells no budget.
+#[derive(Drop)]
+struct AtExchanges {
+    deaths: u64,
+}
+
+impl Fuse for AtExchanges {
+    ghost fused = { λ f. record { can_die = true; deaths = f.deaths; budget = None } };
+
+    fn admit(&mut self, kind: EventKind) -> Admit {
+        if kind != EventKind::Exchange {
+            return Admit::Go;
+        }
+        match self.deaths.checked_add(1) {
+            Some(more) => {
+                self.deaths = more;
+                Admit::Die
+            }
+            None => Admit::Go,
+        }
+    }
+}
+
+#[test]
+fn a_memory_asks_its_fuse_for_loads_and_stores_alone(rt: HostRuntime) -> Result<(), Fail> {
+    let mut fuse = AtExchanges { deaths: 0 };
+    assert!(rt; answers(&mut fuse).iter().copied().eq("ggdggg".chars()));
+    let mut words = Words::empty(rt.alloc(), &Geo::new(1, 1, 64, 4, 0)?)?;
+    assert_eq!(rt; begin_first_put(&mut words, AtExchanges { deaths: 0 }), Ok(()));
+    Ok(())
+}
+
+/// The words of the only segment of a map of one tier, with these at their addresses and zeros elsewhere.
 fn words_with(alloc: Global, rows: &[(u32, u64)]) -> Result<Words, Fail> {
     let mut words = Words::empty(alloc, &Geo::new(1, 1, 64, 4, 0)?)?;
     for (at, word) in rows {
@@ -162,7 +221,7 @@ fn loaded(words: &Words, segment: u32, at: u32) -> Option<u64> {
 }
 
 #[test]
-fn the_words_of_three_keys_stand_at_their_places(rt: HostRuntime) -> Result<(), Fail> {
+fn the_words_of_three_keys_stand_at_their_addresses(rt: HostRuntime) -> Result<(), Fail> {
     let geo = Geo::new(1, 1, 64, 4, 0)?;
     let words = words_with(rt.alloc(), &THREE_KEYS)?;
     let rows = [
@@ -191,12 +250,13 @@ fn the_words_of_three_keys_stand_at_their_places(rt: HostRuntime) -> Result<(), 
 fn load_and_store<F: Fuse>(words: &mut Words, fuse: F) -> Result<u64, Dead>
     requires nonzero { 0 < words.old.geo.segments }
     requires long { 8 < words_in_segment words.old.geo }
-    ensures stored { OnOk result (segment_in words.new 0 ≡ after_stores (segment_in words.old 0) ((2, 7) ∷ (3, 9) ∷ [])) }
+    ensures stored { OnOk result (segment_in words.new 0 ≡ after_stores (segment_in words.old 0) (store_at 2 7 ∷ store_at 3 9 ∷ [])) }
     ensures rest { rest_of words.new 0 ≡ rest_of words.old 0 }
 {
+    let geo = *words.geo();
     let mut mem = PlainMem::free(words, 0, fuse);
     mem.load(8)?;
-    store_two(&mut mem, 2, 7, 3, 9)?;
+    store_two(&mut mem, &geo, 2, 7, 3, 9)?;
     let word = mem.load(2)?;
     Ok(word)
 }
@@ -210,9 +270,11 @@ fn a_memory_is_as_the_last_admitted_store_left_it(rt: HostRuntime) -> Result<(),
         (stores(2), Ok(7), (7, 9)),
         (events(0), Err(Dead), (3, 0)),
         (events(1), Err(Dead), (3, 0)),
-        (events(2), Err(Dead), (7, 0)),
-        (events(3), Err(Dead), (7, 9)),
-        (events(4), Ok(7), (7, 9)),
+        (events(2), Err(Dead), (3, 0)),
+        (events(3), Err(Dead), (7, 0)),
+        (events(4), Err(Dead), (7, 0)),
+        (events(5), Err(Dead), (7, 9)),
+        (events(6), Ok(7), (7, 9)),
         (spent(1), Err(Dead), (3, 0)),
     ];
     for (fuse, answer, (second, third)) in rows {
@@ -257,8 +319,9 @@ fn begin_first_put<F: Fuse>(words: &mut Words, fuse: F) -> Result<(), Dead>
     requires { AreNew words.old }
 {
     let plan = first_put();
+    let geo = *words.geo();
     let mut mem = PlainMem::guarded(words, 0, fuse);
-    begin_and_store(&mut mem, &plan, 2, 7, 3, 9)
+    begin_and_store(&mut mem, &geo, &plan, 2, 7, 3, 9)
 }
 
 #[test]
@@ -271,8 +334,10 @@ fn a_plan_is_stopped_at_each_of_its_stores(rt: HostRuntime) -> Result<(), Fail> 
         (stores(3), Ok(()), (1, 7, 9)),
         (events(0), Err(Dead), (0, 0, 0)),
         (events(1), Err(Dead), (1, 0, 0)),
-        (events(2), Err(Dead), (1, 7, 0)),
-        (events(3), Ok(()), (1, 7, 9)),
+        (events(2), Err(Dead), (1, 0, 0)),
+        (events(3), Err(Dead), (1, 7, 0)),
+        (events(4), Err(Dead), (1, 7, 0)),
+        (events(5), Ok(()), (1, 7, 9)),
         (spent(1), Err(Dead), (0, 0, 0)),
     ];
     for (fuse, answer, (number, second, third)) in rows {

@@ -65,7 +65,7 @@ impl Words {
         &self.geo
     }
 
-    /// The word at a place of the map.
+    /// The word at an address of the map.
     pub fn get(&self, at: u32) -> u64
         requires { at < words_in_map self.now.geo }
         ensures { result ≡ slice_index self.now.words at }
@@ -73,7 +73,7 @@ impl Words {
         self.words[at as usize]
     }
 
-    /// Sets the word at a place of the map.
+    /// Sets the word at an address of the map.
     pub fn set(&mut self, at: u32, word: u64)
         requires { at < words_in_map self.old.geo }
         ensures { self.new ≡ record { geo = self.old.geo; words = slice_set self.old.words at word } }
@@ -81,7 +81,7 @@ impl Words {
         self.words[at as usize] = word;
     }
 
-    /// The place in the map of a segment's first word.
+    /// The address in the map of a segment's first word.
     #[tactic(auto, using(crate::proofs::MapPlaces::segment_inside))]
     pub(crate) fn start_of(&self, segment: u32) -> u32
         requires { segment < self.now.geo.segments }

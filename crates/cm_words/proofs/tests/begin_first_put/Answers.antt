@@ -15,10 +15,10 @@ begin_and_store-requires-clause-planned g c =
     (subst (λ (m : MemSeen). IsPlanHere m first_put) (sym c.guarded-mem.ensures.seen) (new_planned true c.args.words.now _ c.requires))
 
 pub begin_and_store-requires-clause-first_in : goal.begin_and_store-requires-clause-first_in
-begin_and_store-requires-clause-first_in g c = let inside = head_inside c.guarded-mem.result.words.now.geo in omega (arith, inside)
+begin_and_store-requires-clause-first_in g c = let inside = head_inside c.geo.result.now in omega (arith, inside)
 
 pub begin_and_store-requires-clause-second_in : goal.begin_and_store-requires-clause-second_in
-begin_and_store-requires-clause-second_in g c = let inside = head_inside c.guarded-mem.result.words.now.geo in omega (arith, inside)
+begin_and_store-requires-clause-second_in g c = let inside = head_inside c.geo.result.now in omega (arith, inside)
 
 pub begin_and_store-requires-clause-first_kept : goal.begin_and_store-requires-clause-first_kept
 begin_and_store-requires-clause-first_kept g c = head_keeps_torn _ _ 2 7 (omega arith)

@@ -1,32 +1,36 @@
 use Rattle.std.proofs.Common.{◌≡◌, false, true, refl}
-use Rattle.cm_words.specs.Fixed.{fixed_seen}
-use Rattle.cm_words.proofs.FittingLists.{as_before, on_err, reads_load, reads_same, knows_number}
+use Rattle.cm_words.specs.Fixed.{SameWords, fixed_seen}
+use Rattle.cm_words.specs.declared.fuse.EventKind.TheVariants.{Load}
+use Rattle.cm_words.specs.Effects.{Reads}
+use Rattle.cm_words.proofs.CallSequences.{load_no_store, once_err, once_ok}
+use Rattle.cm_words.proofs.FittingLists.{as_before, knows_number, reads_load}
 use Rattle.cm_words.proofs.MapPlaces.{number_inside}
 use Rattle.cm_words.proofs.PlainNotes.{notes_loaded}
 use Rattle.cm_words.proofs.fixed.FixedMemMem.number.Goals as goal
 
-pub returns-in_err-ask-clause-reads : goal.returns-in_err-ask-clause-reads
-returns-in_err-ask-clause-reads c = reads_same _ _ (record { setting = refl; plan = refl }) (λ k. refl)
+pub returns-in_err-ask-clause-loads : goal.returns-in_err-ask-clause-loads
+returns-in_err-ask-clause-loads c =
+    once_err fixed_seen SameWords Load Reads _ _ _ c.from_residual.result c.from_residual.ensures.0 (record { words = refl; segment = refl }) c.in_err-ask.ensures.fuse c.in_err-ask.ensures.event
+    (as_before _ _ (record { setting = refl; plan = refl }) (λ k. refl) c.in_err-ask.ensures.dead_events c.in_err-ask.ensures.dead_stores)
 
-pub returns-in_err-ask-clause-dead : goal.returns-in_err-ask-clause-dead
-returns-in_err-ask-clause-dead c =
-    on_err c.from_residual.result (as_before _ _ (record { setting = refl; plan = refl }) (λ k. refl) c.in_err-ask.ensures.dead_events c.in_err-ask.ensures.dead_stores)
+pub address-address-requires : goal.address-address-requires
+address-address-requires c = number_inside c.args.self.now.words.now.geo
 
-pub place-place-requires : goal.place-place-requires
-place-place-requires c = number_inside c.args.self.now.words.now.geo
-
-pub returns-clause-reads : goal.returns-clause-reads
-returns-clause-reads c =
+pub returns-clause-loads : goal.returns-clause-loads
+returns-clause-loads c =
     let m = c.args.self.now in
     let inside = number_inside m.words.now.geo in
-    reads_load _ _ 1 _ inside (record { setting = refl; plan = refl }) (notes_loaded _ _ m.words.now.geo m.start 1 m.words.now.words m.words.now.words inside (λ k. refl) (λ k. refl))
+    once_ok fixed_seen SameWords Load Reads _ _ _ (record { words = refl; segment = refl }) c.in_ok-ask.ensures.fuse c.in_ok-ask.ensures.event
+    (reads_load _ _ 1 _ inside (record { setting = refl; plan = refl })
+    (notes_loaded _ _ m.words.now.geo m.start 1 m.words.now.words m.words.now.words inside (λ k. refl) (λ k. refl)) (load_no_store _ _ c.in_ok-ask.ensures.event))
 
-not_guarded : false ≡ true → ⊥
-not_guarded e = cc e
+-- it is neither guarded nor shared
+not_so : false ≡ true → ⊥
+not_so e = cc e
 
 pub returns-clause-number : goal.returns-clause-number
 returns-clause-number c =
     let m = c.args.self.now in
     let inside = number_inside m.words.now.geo in
-    rw (c.get.ensures, c.place-place.ensures.value) (knows_number (fixed_seen m) _ _ inside
-    (notes_loaded _ _ m.words.now.geo m.start 1 m.words.now.words m.words.now.words inside (λ k. refl) (λ k. refl)) (λ guarded. absurd (not_guarded guarded)))
+    rw (c.get.ensures, c.address-address.ensures.value) (knows_number (fixed_seen m) _ _ inside
+    (notes_loaded _ _ m.words.now.geo m.start 1 m.words.now.words m.words.now.words inside (λ k. refl) (λ k. refl)) (λ guarded. absurd (not_so guarded)) (λ shared. absurd (not_so shared)))

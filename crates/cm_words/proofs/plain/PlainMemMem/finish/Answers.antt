@@ -9,8 +9,8 @@ pub returns-in_err-ask-clause-dead : goal.returns-in_err-ask-clause-dead
 returns-in_err-ask-clause-dead g c =
     on_err c.from_residual.result (as_before _ _ (record { setting = refl; plan = refl }) (λ k. refl) c.in_err-ask.ensures.dead_events c.in_err-ask.ensures.dead_stores)
 
-pub place-place-requires : goal.place-place-requires
-place-place-requires g c = number_inside c.args.self.now.words.now.geo
+pub address-address-requires : goal.address-address-requires
+address-address-requires g c = number_inside c.args.self.now.words.now.geo
 
 even_next : (word : ℕ) → word % 2 ≡ 1 → (word + 1) % 2 ≡ 0
 even_next word odd = omega arith
@@ -28,8 +28,8 @@ invariant_of-self-2 g c =
     let number = get_or words (m.start + 1) 0 in
     let inside = number_inside m.words.now.geo in
     let within : m.start + 1 < length words = rw m.whole (place_inside m.words.now.geo m.segment m.start 1 m.here m.starts inside).0 in
-    let odd = m.odd (some_plan m.plan c.requires.under_way) in
-    rw (c.set.ensures, c.get-odd.ensures, c.place-place.ensures.value) (record {
+    let odd = m.odd (some_plan m.is_under_way m.plan c.requires.under_way) in
+    rw (c.set.ensures, c.get-odd.ensures, c.address-address.ensures.value) (record {
       here = m.here;
       starts = m.starts;
       whole = length-set words (m.start + 1) (number + 1) ∙ m.whole;
@@ -44,7 +44,7 @@ returns-clause-rest g c change planned =
     record {
       name = refl;
       segment = refl;
-      rest = rw (c.set.ensures, c.get-odd.ensures, c.place-place.ensures.value) (rest_stored m.words.now m.segment m.start 1 _ m.starts (number_inside m.words.now.geo));
+      rest = rw (c.set.ensures, c.get-odd.ensures, c.address-address.ensures.value) (rest_stored m.words.now m.segment m.start 1 _ m.starts (number_inside m.words.now.geo));
     }
 
 pub returns-clause-finishes : goal.returns-clause-finishes
@@ -53,6 +53,6 @@ returns-clause-finishes g c =
     let words = m.words.now.words in
     let inside = number_inside m.words.now.geo in
     let within : m.start + 1 < length words = rw m.whole (place_inside m.words.now.geo m.segment m.start 1 m.here m.starts inside).0 in
-    let odd = m.odd (some_plan m.plan c.requires.under_way) in
-    rw (c.set.ensures, c.get-odd.ensures, c.place-place.ensures.value) (finishes_by _ _ _ inside refl refl
+    let odd = m.odd (some_plan m.is_under_way m.plan c.requires.under_way) in
+    rw (c.set.ensures, c.get-odd.ensures, c.address-address.ensures.value) (finishes_by _ _ _ inside refl refl
     (notes_finished _ _ m.words.now.geo m.start _ words m.first.value.words inside within (m.fit (m.start + 1) 0 within) (twice_half (get_or words (m.start + 1) 0) odd.0) (λ k. refl) (λ k. refl)))

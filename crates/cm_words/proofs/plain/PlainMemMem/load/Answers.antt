@@ -1,24 +1,26 @@
 use Rattle.std.proofs.Common.{refl}
-use Rattle.cm_words.specs.Plain.{plain_seen}
-use Rattle.cm_words.proofs.FittingLists.{as_before, on_err, reads_load, reads_same, knows_load}
+use Rattle.cm_words.specs.Plain.{SameRest, plain_seen}
+use Rattle.cm_words.specs.declared.fuse.EventKind.TheVariants.{Load}
+use Rattle.cm_words.specs.Effects.{Reads}
+use Rattle.cm_words.proofs.CallSequences.{load_no_store, once_err, once_ok}
+use Rattle.cm_words.proofs.FittingLists.{as_before, knows_load, reads_load}
 use Rattle.cm_words.proofs.PlainNotes.{notes_loaded}
 use Rattle.cm_words.proofs.plain.PlainMemMem.load.Goals as goal
 
-pub returns-in_err-ask-clause-reads : goal.returns-in_err-ask-clause-reads
-returns-in_err-ask-clause-reads g c = reads_same _ _ (record { setting = refl; plan = refl }) (λ k. refl)
+pub returns-in_err-ask-clause-loads : goal.returns-in_err-ask-clause-loads
+returns-in_err-ask-clause-loads g c =
+    once_err (plain_seen g.F.Fuse.fused) SameRest Load Reads _ _ _ c.from_residual.result c.from_residual.ensures.0 (record { name = refl; segment = refl; rest = refl }) c.in_err-ask.ensures.fuse c.in_err-ask.ensures.event
+    (as_before _ _ (record { setting = refl; plan = refl }) (λ k. refl) c.in_err-ask.ensures.dead_events c.in_err-ask.ensures.dead_stores)
 
-pub returns-in_err-ask-clause-dead : goal.returns-in_err-ask-clause-dead
-returns-in_err-ask-clause-dead g c =
-    on_err c.from_residual.result (as_before _ _ (record { setting = refl; plan = refl }) (λ k. refl) c.in_err-ask.ensures.dead_events c.in_err-ask.ensures.dead_stores)
-
-pub returns-clause-reads : goal.returns-clause-reads
-returns-clause-reads g c =
+pub returns-clause-loads : goal.returns-clause-loads
+returns-clause-loads g c =
     let m = c.args.self.now in
-    reads_load _ _ c.args.at _ c.requires.in_range (record { setting = refl; plan = refl })
-    (notes_loaded _ _ m.words.now.geo m.start c.args.at m.words.now.words m.first.value.words c.requires.in_range (λ k. refl) (λ k. refl))
+    once_ok (plain_seen g.F.Fuse.fused) SameRest Load Reads _ _ _ (record { name = refl; segment = refl; rest = refl }) c.in_ok-ask.ensures.fuse c.in_ok-ask.ensures.event
+    (reads_load _ _ c.args.at _ c.requires.in_range (record { setting = refl; plan = refl })
+    (notes_loaded _ _ m.words.now.geo m.start c.args.at m.words.now.words m.first.value.words c.requires.in_range (λ k. refl) (λ k. refl)) (load_no_store _ _ c.in_ok-ask.ensures.event))
 
 pub returns-clause-word : goal.returns-clause-word
 returns-clause-word g c =
     let m = c.args.self.now in
-    rw (c.get.ensures, c.place-place.ensures.value) (knows_load (plain_seen g.F.Fuse.fused m) _ c.args.at _ c.requires.in_range
+    rw (c.get.ensures, c.address-address.ensures.value) (knows_load (plain_seen g.F.Fuse.fused m) _ c.args.at _ c.requires.in_range
     (notes_loaded _ _ m.words.now.geo m.start c.args.at m.words.now.words m.first.value.words c.requires.in_range (λ k. refl) (λ k. refl)))

@@ -1,6 +1,6 @@
 use Rattle.std.proofs.Common.{arith}
 use Rattle.cm_words.proofs.MapPlaces.{place_inside}
-use Rattle.cm_words.proofs.plain.PlainMem.place.Goals as goal
+use Rattle.cm_words.proofs.plain.PlainMem.address.Goals as goal
 
 pub overflow_add-result : goal.overflow_add-result
 overflow_add-result g c =
