@@ -8,7 +8,7 @@ use Rattle.cm_geo.proofs.Ranges.{chunks_range}
 use Rattle.cm_plain.specs.Slots.{IsPointedOnce, Points, Slot, slot_for, slot_in}
 use Rattle.cm_lookup.specs.Rings.{occupied_words}
 use Rattle.cm_lookup.specs.Shifts.{IsShift}
-use Rattle.cm_words.specs.Effects.{after_stores}
+use Rattle.cm_words.specs.Stores.{WordStore, after_stores}
 use Rattle.cm_lookup.specs.Tiers.{at_slots, ring_of, slot_word, slot_words}
 use Rattle.cm_lookup.proofs.RingMembers.{IsIn, word_of_slot, word_taken}
 use Rattle.cm_lookup.proofs.SingleSlot.{StandsOnce, once_emptied, once_moved}
@@ -23,7 +23,7 @@ pub record Rearranged (geo : Geo) (before now : List ℕ) (place slot : ℕ) : T
   pub others : IsPermutation (occupied_words (set (slot_words geo before place) slot 0)) (occupied_words (slot_words geo now place))
 
 -- after the whole shift they are
-pub shift_rearranges : (geo : Geo) (words : List ℕ) (place slot : ℕ) (stores : List (ℕ × ℕ)) → IsTier geo words place slot → IsShift (ring_of geo) (slot_words geo words place) slot stores
+pub shift_rearranges : (geo : Geo) (words : List ℕ) (place slot : ℕ) (stores : List WordStore) → IsTier geo words place slot → IsShift (ring_of geo) (slot_words geo words place) slot stores
     → Rearranged geo words (after_stores words (at_slots geo place stores)) place slot
 shift_rearranges geo words place slot stores tier whole =
     let table = tier_is_table geo words place slot tier in

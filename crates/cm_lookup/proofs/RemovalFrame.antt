@@ -7,7 +7,7 @@ use Rattle.cm_plain.specs.Slots.{Slot, slot_in, slot_of_word, word_at}
 use Rattle.cm_plain.proofs.Each.{each_append}
 use Rattle.cm_lookup.specs.Rings.{Ring}
 use Rattle.cm_lookup.specs.Shifts.{IsShift, Shift}
-use Rattle.cm_words.specs.Effects.{after_stores}
+use Rattle.cm_words.specs.Stores.{WordStore, after_stores}
 use Rattle.cm_lookup.specs.Shifts.Shift.{begins, stays, moves}
 use Rattle.cm_lookup.specs.Tiers.{HasEmptySlot, KeepsSlotLaw, LostSlot, at_slots, ring_of, slot_words}
 use Rattle.cm_lookup.proofs.RingArithmetic.{onward_below}
@@ -38,37 +38,37 @@ some_in_ring geo words place slot inside nonzero empty = nonzero ((slot_empty ge
 -- ---- where the stores are
 
 -- each store of a shift is at a slot
-pub shift_within : (ring : Ring) (slots : List ℕ) (slot hole steps : ℕ) (made : List (ℕ × ℕ)) → 0 < ring.size → Shift ring slots slot hole steps made → AreWithin ring.size made
+pub shift_within : (ring : Ring) (slots : List ℕ) (slot hole steps : ℕ) (made : List WordStore) → 0 < ring.size → Shift ring slots slot hole steps made → AreWithin ring.size made
 shift_within ring slots slot hole steps made nonzero begins = tt
 shift_within ring slots slot hole steps made nonzero (stays h s m shift below full stay) = shift_within ring slots slot h s m nonzero shift
 shift_within ring slots slot hole steps made nonzero (moves h s m shift below full fuse) =
-    each_append (λ (store : ℕ × ℕ). store.0 < ring.size) m _ (shift_within ring slots slot h s m nonzero shift) (onward_below ring slot h nonzero, tt)
+    each_append (λ (store : WordStore). store.at < ring.size) m _ (shift_within ring slots slot h s m nonzero shift) (onward_below ring slot h nonzero, tt)
 
-pub whole_within : (ring : Ring) (slots : List ℕ) (slot : ℕ) (stores : List (ℕ × ℕ)) → 0 < ring.size → IsShift ring slots slot stores → AreWithin ring.size stores
+pub whole_within : (ring : Ring) (slots : List ℕ) (slot : ℕ) (stores : List WordStore) → 0 < ring.size → IsShift ring slots slot stores → AreWithin ring.size stores
 whole_within ring slots slot stores nonzero whole =
     subst (AreWithin ring.size) (sym whole.stores_are)
-    (each_append (λ (store : ℕ × ℕ). store.0 < ring.size) whole.made _ (shift_within ring slots slot whole.hole whole.steps whole.made nonzero whole.shift) (onward_below ring slot whole.hole nonzero, tt))
+    (each_append (λ (store : WordStore). store.at < ring.size) whole.made _ (shift_within ring slots slot whole.hole whole.steps whole.made nonzero whole.shift) (onward_below ring slot whole.hole nonzero, tt))
 
 -- they leave the head words of tiers
-pub heads_left : (geo : Geo) (words : List ℕ) (place other word : ℕ) (stores : List (ℕ × ℕ)) → AreWithin (2 * geo.chunks) stores → word < 4
+pub heads_left : (geo : Geo) (words : List ℕ) (place other word : ℕ) (stores : List WordStore) → AreWithin (2 * geo.chunks) stores → word < 4
     → get_or (after_stores words (at_slots geo place stores)) (tier_at geo other + word) 0 ≡ get_or words (tier_at geo other + word) 0
 heads_left geo words place other word stores within below =
     after_stores_left geo words place stores (tier_at geo other + word) within (λ slot slot_below e. slot_not_tier_head geo place other slot word slot_below below (sym e))
 
 -- words of bits
-pub bits_left : (geo : Geo) (words : List ℕ) (place other word : ℕ) (stores : List (ℕ × ℕ)) → AreWithin (2 * geo.chunks) stores → word < geo.chunks / 64
+pub bits_left : (geo : Geo) (words : List ℕ) (place other word : ℕ) (stores : List WordStore) → AreWithin (2 * geo.chunks) stores → word < geo.chunks / 64
     → get_or (after_stores words (at_slots geo place stores)) (bits_at geo other word) 0 ≡ get_or words (bits_at geo other word) 0
 bits_left geo words place other word stores within below =
     after_stores_left geo words place stores (bits_at geo other word) within (λ slot slot_below e. slot_not_bits geo place other slot word slot_below below (sym e))
 
 -- the slots of other tiers
-pub slots_left : (geo : Geo) (words : List ℕ) (place other number : ℕ) (stores : List (ℕ × ℕ)) → AreWithin (2 * geo.chunks) stores → number < 2 * geo.chunks → other ≢ place
+pub slots_left : (geo : Geo) (words : List ℕ) (place other number : ℕ) (stores : List WordStore) → AreWithin (2 * geo.chunks) stores → number < 2 * geo.chunks → other ≢ place
     → get_or (after_stores words (at_slots geo place stores)) (slot_at geo other number) 0 ≡ get_or words (slot_at geo other number) 0
 slots_left geo words place other number stores within below differs =
     after_stores_left geo words place stores (slot_at geo other number) within (λ slot slot_below e. slots_apart geo other place number slot below slot_below (λ same. absurd (differs same)) e)
 
 -- and words of chunks
-pub chunks_left : (geo : Geo) (words : List ℕ) (place other chunk word : ℕ) (stores : List (ℕ × ℕ)) → AreWithin (2 * geo.chunks) stores → chunk < geo.chunks → word < geo.chunk_words
+pub chunks_left : (geo : Geo) (words : List ℕ) (place other chunk word : ℕ) (stores : List WordStore) → AreWithin (2 * geo.chunks) stores → chunk < geo.chunks → word < geo.chunk_words
     → get_or (after_stores words (at_slots geo place stores)) (chunk_at geo other chunk + word) 0 ≡ get_or words (chunk_at geo other chunk + word) 0
 chunks_left geo words place other chunk word stores within chunk_below below =
     after_stores_left geo words place stores (chunk_at geo other chunk + word) within
@@ -77,7 +77,7 @@ chunks_left geo words place other chunk word stores within chunk_below below =
 -- ---- after the whole shift
 
 -- the tier lost just the removed slot
-pub lost_slot : (geo : Geo) (words : List ℕ) (place slot : ℕ) (stores : List (ℕ × ℕ)) → IsTier geo words place slot → slot_in geo words place slot ≢ None → KeepsSlotLaw geo words place → IsShift (ring_of geo) (slot_words geo words place) slot stores
+pub lost_slot : (geo : Geo) (words : List ℕ) (place slot : ℕ) (stores : List WordStore) → IsTier geo words place slot → slot_in geo words place slot ≢ None → KeepsSlotLaw geo words place → IsShift (ring_of geo) (slot_words geo words place) slot stores
     → LostSlot geo words (after_stores words (at_slots geo place stores)) place slot
 lost_slot geo words place slot stores tier nonzero law whole =
     let table = tier_is_table geo words place slot tier in
@@ -108,7 +108,7 @@ unfolding slot_in
 word_to_slot geo words place number slot word is same = subst (λ (w : ℕ). slot_of_word w ≡ Some slot) (sym same) is
 
 -- each slot but the removed one still stands in the tier
-pub slot_still_there : (geo : Geo) (words : List ℕ) (place slot hole steps : ℕ) (made : List (ℕ × ℕ)) (number : ℕ) (seen : Slot) → IsTier geo words place slot
+pub slot_still_there : (geo : Geo) (words : List ℕ) (place slot hole steps : ℕ) (made : List WordStore) (number : ℕ) (seen : Slot) → IsTier geo words place slot
     → Shift (ring_of geo) (slot_words geo words place) slot hole steps made → number < 2 * geo.chunks → number ≢ slot → slot_in geo words place number ≡ Some seen
     → (other : ℕ) × (other < 2 * geo.chunks) × (slot_in geo (after_stores words (at_slots geo place made)) place other ≡ Some seen)
 slot_still_there geo words place slot hole steps made number seen tier shift below apart is =
@@ -126,7 +126,7 @@ slot_still_there geo words place slot hole steps made number seen tier shift bel
     )
 
 -- and each slot that stands there stood there before
-pub slot_stood_before : (geo : Geo) (words : List ℕ) (place slot hole steps : ℕ) (made : List (ℕ × ℕ)) (number : ℕ) (seen : Slot) → IsTier geo words place slot
+pub slot_stood_before : (geo : Geo) (words : List ℕ) (place slot hole steps : ℕ) (made : List WordStore) (number : ℕ) (seen : Slot) → IsTier geo words place slot
     → Shift (ring_of geo) (slot_words geo words place) slot hole steps made → number < 2 * geo.chunks → slot_in geo (after_stores words (at_slots geo place made)) place number ≡ Some seen
     → (other : ℕ) × (other < 2 * geo.chunks) × (slot_in geo words place other ≡ Some seen)
 slot_stood_before geo words place slot hole steps made number seen tier shift below is =

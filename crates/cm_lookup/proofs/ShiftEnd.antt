@@ -1,4 +1,5 @@
 -- A shift comes to an end where the ring has an empty slot.
+use Rattle.cm_words.specs.Stores.{WordStore, store_at}
 use Rattle.std.proofs.Common.{◌≡◌, ◌≢◌, ℕ, ◌+◌, ◌<◌, ◌≤◌, ◌⊎◌, List, [], ◌∷◌, ◌++◌, get_or, refl, sym, subst, ap, ◌∙◌, arith, zero, suc, inl, inr, add-one}
 use Rattle.std.proofs.lemmas.Bool.{cases_eq, cases_lt}
 use Rattle.cm_lookup.specs.Rings.{Ring, way, onward, word_behind}
@@ -23,7 +24,7 @@ ends_within ring slots slot steps number nonzero inside removed below empty seen
     ]
 
 -- so there are never as many as there are slots
-pub meets : (ring : Ring) (slots : List ℕ) (slot hole steps number : ℕ) (made : List (ℕ × ℕ)) → IsTable ring slots slot → get_or slots slot 0 ≢ 0 → number < ring.size → get_or slots number 0 ≡ 0
+pub meets : (ring : Ring) (slots : List ℕ) (slot hole steps number : ℕ) (made : List WordStore) → IsTable ring slots slot → get_or slots slot 0 ≢ 0 → number < ring.size → get_or slots number 0 ≡ 0
     → Shift ring slots slot hole steps made → steps < ring.size
 meets ring slots slot hole steps number made table removed below empty shift =
     let so_far = shifting ring slots slot hole steps made table shift in
@@ -33,26 +34,26 @@ meets ring slots slot hole steps number made table removed below empty shift =
 -- a shift that has come so far
 pub record HasCome (ring : Ring) (slots : List ℕ) (slot steps : ℕ) : Type 0 where
   pub hole : ℕ
-  pub made : List (ℕ × ℕ)
+  pub made : List WordStore
   pub shift : Shift ring slots slot hole steps made
 
 -- a shift that is whole
 pub record HasEnded (ring : Ring) (slots : List ℕ) (slot : ℕ) : Type 0 where
-  pub stores : List (ℕ × ℕ)
+  pub stores : List WordStore
   pub whole : IsShift ring slots slot stores
 
 -- one step more, or the end
 goes_on : (ring : Ring) (slots : List ℕ) (slot steps : ℕ) → steps < ring.size → HasCome ring slots slot steps → HasCome ring slots slot (steps + 1) ⊎ HasEnded ring slots slot
 goes_on ring slots slot steps below come = elim (cases_eq (word_behind ring slots slot steps) 0) [
   | inl empty ↦ inr (record {
-    stores = come.made ++ (onward ring slot come.hole, 0) ∷ [];
+    stores = come.made ++ store_at (onward ring slot come.hole) 0 ∷ [];
     whole = record { hole = come.hole; steps = steps; made = come.made; shift = come.shift; within = below; empty = empty; stores_are = refl };
   })
   | inr nonzero ↦ elim (cases_lt (way ring (ring.home (word_behind ring slots slot steps)) (onward ring slot steps) + come.hole) steps) [
     | inl near ↦ inl (record { hole = come.hole; made = come.made; shift = stays come.hole steps come.made come.shift below nonzero near })
     | inr far ↦ inl (record {
       hole = steps;
-      made = come.made ++ (onward ring slot come.hole, word_behind ring slots slot steps) ∷ [];
+      made = come.made ++ store_at (onward ring slot come.hole) (word_behind ring slots slot steps) ∷ [];
       shift = moves come.hole steps come.made come.shift below nonzero (farther (way ring (ring.home (word_behind ring slots slot steps)) (onward ring slot steps)) come.hole steps far);
     })
   ]

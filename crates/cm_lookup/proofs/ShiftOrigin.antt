@@ -2,7 +2,7 @@
 use Rattle.std.proofs.Common.{◌≡◌, ℕ, List, subst}
 use Rattle.cm_geo.specs.declared.geo.Geo.{Geo}
 use Rattle.cm_words.specs.Memory.{FitsNotes, MemSeen, origin}
-use Rattle.cm_lookup.specs.Removals.{CanLose, Removes, ShiftedPart}
+use Rattle.cm_lookup.specs.Removals.{CanLose, Removes, ShiftsPart}
 use Rattle.cm_lookup.specs.Tiers.{KeepsSlotLaw}
 use Rattle.cm_lookup.proofs.LostEntry.{Rearranged, shift_rearranges}
 use Rattle.cm_lookup.proofs.PartialShift.{IsMidway, midway}
@@ -25,9 +25,9 @@ came_without old now geo place slot words here removes fits =
       record {
         fits = far.1.fits;
         origin_is = far.1.origin;
-        law = λ can. (far.1.lost can).law;
-        moved = λ can. subst (λ (ws : List ℕ). Rearranged geo far.0 ws place slot) far.1.leads (shift_rearranges geo far.0 place slot far.1.stores (here_is_tier old geo place slot far.0 here far.1.fits) (far.1.whole can));
-        around = λ can. subst (λ (ws : List ℕ). IsMidway geo far.0 ws place slot) far.1.leads (midway geo far.0 place slot far.1.stores (here_is_tier old geo place slot far.0 here far.1.fits) (whole (far.1.whole can)));
+        law = λ can. (far.1.relates.lost can).law;
+        moved = λ can. subst (λ (ws : List ℕ). Rearranged geo far.0 ws place slot) far.1.relates.by.leads (shift_rearranges geo far.0 place slot far.1.relates.stores (here_is_tier old geo place slot far.0 here far.1.fits) (far.1.relates.whole can));
+        around = λ can. subst (λ (ws : List ℕ). IsMidway geo far.0 ws place slot) far.1.relates.by.leads (midway geo far.0 place slot far.1.relates.stores (here_is_tier old geo place slot far.0 here far.1.fits) (whole (far.1.relates.whole can)));
       },
     )
 
@@ -37,7 +37,7 @@ pub record CameOnTheWay (old now : MemSeen) (geo : Geo) (place slot : ℕ) (word
   pub origin_is : origin now words ≡ origin old before
   pub around : IsMidway geo before words place slot
 
-pub came_on_the_way : (old now : MemSeen) (geo : Geo) (place slot : ℕ) (words : List ℕ) → IsHere old geo place slot → ShiftedPart old now geo place slot → FitsNotes now words
+pub came_on_the_way : (old now : MemSeen) (geo : Geo) (place slot : ℕ) (words : List ℕ) → IsHere old geo place slot → ShiftsPart old now geo place slot → FitsNotes now words
     → (before : List ℕ) × CameOnTheWay old now geo place slot words before
 came_on_the_way old now geo place slot words here shifted fits =
     let far = shifted.2.came words fits in (
@@ -45,7 +45,7 @@ came_on_the_way old now geo place slot words here shifted fits =
       record {
         fits = far.1.fits;
         origin_is = far.1.origin;
-        around = subst (λ (ws : List ℕ). IsMidway geo far.0 ws place slot) far.1.leads
-            (midway geo far.0 place slot far.1.made (here_is_tier old geo place slot far.0 here far.1.fits) (part shifted.0 shifted.1 far.1.shift));
+        around = subst (λ (ws : List ℕ). IsMidway geo far.0 ws place slot) far.1.relates.by.leads
+            (midway geo far.0 place slot far.1.relates.made (here_is_tier old geo place slot far.0 here far.1.fits) (part shifted.0 shifted.1 far.1.relates.shift));
       },
     )

@@ -4,16 +4,16 @@ use Rattle.std.proofs.lemmas.Bool.{cases_lt}
 use Rattle.std.proofs.lemmas.List.Sorted.{IsPermutation-refl, IsPermutation-trans, IsPermutation-cons}
 use Rattle.cm_lookup.specs.Rings.{Ring, IsRing, KeepsLaw, onward, word_behind, occupied_words}
 use Rattle.cm_lookup.specs.Shifts.{IsShift, Shift, Stays}
-use Rattle.cm_words.specs.Effects.{after_stores}
+use Rattle.cm_words.specs.Stores.{WordStore, after_stores, store_at}
 use Rattle.cm_lookup.specs.Shifts.Shift.{begins, stays, moves}
 use Rattle.cm_lookup.proofs.RingArithmetic.{onward_below, onward_none, onward_apart}
 use Rattle.cm_lookup.proofs.HoleLaw.{KeepsLawBut, law_ends, law_moves}
 use Rattle.cm_lookup.proofs.OccupiedWords.{taken_off, taken_moved}
 
 -- one more store
-pub after_one_more : (words : List ℕ) (made : List (ℕ × ℕ)) (at word : ℕ) → after_stores words (made ++ (at, word) ∷ []) ≡ set (after_stores words made) at word
+pub after_one_more : (words : List ℕ) (made : List WordStore) (at word : ℕ) → after_stores words (made ++ store_at at word ∷ []) ≡ set (after_stores words made) at word
 after_one_more words [] at word = refl
-after_one_more words (store ∷ made) at word = after_one_more (set words store.0 store.1) made at word
+after_one_more words (store ∷ made) at word = after_one_more (set words store.at store.word) made at word
 
 -- how the words now stand to those before the shift
 pub record Shifting (ring : Ring) (slots : List ℕ) (slot hole steps : ℕ) (now : List ℕ) : Type 0 where
@@ -111,7 +111,7 @@ shifting_moves ring slots slot hole steps now table so_far below nonzero fuse =
     }
 
 -- the shift keeps it all
-pub shifting : (ring : Ring) (slots : List ℕ) (slot hole steps : ℕ) (made : List (ℕ × ℕ)) → IsTable ring slots slot → Shift ring slots slot hole steps made
+pub shifting : (ring : Ring) (slots : List ℕ) (slot hole steps : ℕ) (made : List WordStore) → IsTable ring slots slot → Shift ring slots slot hole steps made
     → Shifting ring slots slot hole steps (after_stores slots made)
 shifting ring slots slot hole steps made table begins = shifting_begins ring slots slot table
 shifting ring slots slot hole steps made table (stays h s m shift below nonzero stay) =
@@ -121,7 +121,7 @@ shifting ring slots slot hole steps made table (moves h s m shift below nonzero 
     (shifting_moves ring slots slot h s (after_stores slots m) table (shifting ring slots slot h s m table shift) below nonzero fuse)
 
 -- after a whole shift the words are those of the other slots before
-pub rearranged : (ring : Ring) (slots : List ℕ) (slot : ℕ) (stores : List (ℕ × ℕ)) → IsTable ring slots slot → IsShift ring slots slot stores → IsPermutation (occupied_words (set slots slot 0)) (occupied_words (after_stores slots stores))
+pub rearranged : (ring : Ring) (slots : List ℕ) (slot : ℕ) (stores : List WordStore) → IsTable ring slots slot → IsShift ring slots slot stores → IsPermutation (occupied_words (set slots slot 0)) (occupied_words (after_stores slots stores))
 rearranged ring slots slot stores table whole =
     subst (λ (now : List ℕ). IsPermutation (occupied_words (set slots slot 0)) (occupied_words now)) (sym (ap (after_stores slots) whole.stores_are ∙ after_one_more slots whole.made (onward ring slot whole.hole) 0))
     (shifting ring slots slot whole.hole whole.steps whole.made table whole.shift).words
@@ -132,7 +132,7 @@ pub record Removed (ring : Ring) (slots : List ℕ) (slot : ℕ) (now : List ℕ
   pub law : KeepsLaw ring now
   pub words : IsPermutation (occupied_words slots) (get_or slots slot 0 ∷ occupied_words now)
 
-pub removed : (ring : Ring) (slots : List ℕ) (slot : ℕ) (stores : List (ℕ × ℕ)) → IsTable ring slots slot → get_or slots slot 0 ≢ 0 → KeepsLaw ring slots → IsShift ring slots slot stores
+pub removed : (ring : Ring) (slots : List ℕ) (slot : ℕ) (stores : List WordStore) → IsTable ring slots slot → get_or slots slot 0 ≢ 0 → KeepsLaw ring slots → IsShift ring slots slot stores
     → Removed ring slots slot (after_stores slots stores)
 removed ring slots slot stores table nonzero law whole =
     let so_far = shifting ring slots slot whole.hole whole.steps whole.made table whole.shift in

@@ -13,7 +13,7 @@ use Rattle.cm_geo.proofs.AddressesApart.{slots_apart}
 use Rattle.cm_plain.specs.Slots.{chunk_of_half, slot_in, word_at}
 use Rattle.cm_plain.specs.Lawful.{slot_behind, steps_between}
 use Rattle.cm_lookup.specs.Rings.{IsRing, KeepsLaw}
-use Rattle.cm_words.specs.Effects.{after_stores}
+use Rattle.cm_words.specs.Stores.{WordStore, after_stores}
 use Rattle.cm_lookup.specs.Tiers.{KeepsSlotLaw, at_slots, ring_of, slot_words}
 use Rattle.cm_lookup.proofs.SlotWords.{slot_empty, slot_parts, slot_some}
 
@@ -54,29 +54,29 @@ slot_words_set geo words place slot word length_is place_below below =
         ]
 
 -- the stores are at slots of the ring
-abbrev pub AreWithin : ℕ → List (ℕ × ℕ) → Type 0
-AreWithin size stores = AllByRecursion (λ store. store.0 < size) stores
+abbrev pub AreWithin : ℕ → List WordStore → Type 0
+AreWithin size stores = AllByRecursion (λ store. store.at < size) stores
 
 -- stores keep the number of words
-pub after_stores_long : (words : List ℕ) (stores : List (ℕ × ℕ)) → length (after_stores words stores) ≡ length words
+pub after_stores_long : (words : List ℕ) (stores : List WordStore) → length (after_stores words stores) ≡ length words
 after_stores_long words [] = refl
-after_stores_long words (store ∷ stores) = after_stores_long (set words store.0 store.1) stores ∙ length-set words store.0 store.1
+after_stores_long words (store ∷ stores) = after_stores_long (set words store.at store.word) stores ∙ length-set words store.at store.word
 
 -- stores at slots of a tier, one after the other
-pub slot_words_after : (geo : Geo) (words : List ℕ) (place : ℕ) (stores : List (ℕ × ℕ)) → length words ≡ words_in_segment geo → place < geo.tiers → AreWithin (2 * geo.chunks) stores
+pub slot_words_after : (geo : Geo) (words : List ℕ) (place : ℕ) (stores : List WordStore) → length words ≡ words_in_segment geo → place < geo.tiers → AreWithin (2 * geo.chunks) stores
     → slot_words geo (after_stores words (at_slots geo place stores)) place ≡ after_stores (slot_words geo words place) stores
 slot_words_after geo words place [] length_is place_below within = refl
 slot_words_after geo words place (store ∷ stores) length_is place_below within =
-    slot_words_after geo (set words (slot_at geo place store.0) store.1) place stores (length-set words (slot_at geo place store.0) store.1 ∙ length_is) place_below within.1
-    ∙ ap (λ (ws : List ℕ). after_stores ws stores) (slot_words_set geo words place store.0 store.1 length_is place_below within.0)
+    slot_words_after geo (set words (slot_at geo place store.at) store.word) place stores (length-set words (slot_at geo place store.at) store.word ∙ length_is) place_below within.1
+    ∙ ap (λ (ws : List ℕ). after_stores ws stores) (slot_words_set geo words place store.at store.word length_is place_below within.0)
 
 -- a word that is at no slot of the tier is left
-pub after_stores_left : (geo : Geo) (words : List ℕ) (place : ℕ) (stores : List (ℕ × ℕ)) (at : ℕ) → AreWithin (2 * geo.chunks) stores
+pub after_stores_left : (geo : Geo) (words : List ℕ) (place : ℕ) (stores : List WordStore) (at : ℕ) → AreWithin (2 * geo.chunks) stores
     → ((slot : ℕ) → slot < 2 * geo.chunks → at ≢ slot_at geo place slot) → get_or (after_stores words (at_slots geo place stores)) at 0 ≡ get_or words at 0
 after_stores_left geo words place [] at within apart = refl
 after_stores_left geo words place (store ∷ stores) at within apart =
-    after_stores_left geo (set words (slot_at geo place store.0) store.1) place stores at within.1 apart
-    ∙ get_or-set_other words (slot_at geo place store.0) at store.1 0 (apart store.0 within.0)
+    after_stores_left geo (set words (slot_at geo place store.at) store.word) place stores at within.1 apart
+    ∙ get_or-set_other words (slot_at geo place store.at) at store.word 0 (apart store.at within.0)
 
 -- ---- the slot law
 
@@ -100,5 +100,10 @@ law_of_tier geo words place law number slot below is steps on_way =
     ∙ (slot_empty geo words place _).0 (subst (λ (f : ℕ). slot_in geo words place (slot_behind geo (home_in geo f) steps) ≡ None) parts.1 gone))
 
 -- a slot's word is neither the lock word nor the change number
+-- the address of a slot, counted from that of the tier's first one
+pub slot_from_first : (geo : Geo) (place first slot : ℕ) → first ≡ slot_at geo place 0 → first + slot ≡ slot_at geo place slot
+unfolding slot_at
+slot_from_first geo place first slot first_is = omega arith
+
 pub slot_inner : (geo : Geo) (place slot : ℕ) → 1 < slot_at geo place slot
 slot_inner geo place slot = omega (arith, slots_behind_head geo place slot, tier_behind_head geo place)

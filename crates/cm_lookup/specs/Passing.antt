@@ -3,14 +3,7 @@ use Rattle.std.specs.Prelude.{ℕ, ◌≢◌, ◌<◌, ◌≤◌, List, None}
 use Rattle.cm_geo.specs.declared.geo.Geo.{Geo}
 use Rattle.cm_plain.specs.Slots.{slot_in}
 use Rattle.cm_words.specs.Memory.{FitsNotes, MemSeen}
-use Rattle.cm_words.specs.Meters.{Survives}
-use Rattle.cm_words.specs.Effects.{Reads}
 use Rattle.cm_lookup.specs.Probing.{IsPassed, probe}
-
--- loads alone, and no death
-pub record Loaded (old now : MemSeen) : Type 0 where
-  pub reads : Reads old now
-  pub survives : Survives old.meter now.meter
 
 -- the slots from so many steps on were passed
 abbrev pub ArePassed : MemSeen → Geo → ℕ → ℕ → ℕ → ℕ → Type 0

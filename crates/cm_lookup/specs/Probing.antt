@@ -41,6 +41,13 @@ pub record HasNoHit (geo : Geo) (words : List ℕ) (place fingerprint from : ℕ
   pub empty : end < 2 * geo.chunks → IsEmptyAt geo words place fingerprint end
   pub before : (steps : ℕ) → from ≤ steps → steps < end → IsPassed geo words place fingerprint steps
 
+-- a hit's numbers are those of a tier, whatever words stand there
+pub record IsWithin (geo : Geo) (from : ℕ) (hit : Hit) : Type 0 where
+  pub not_before : from ≤ hit.steps
+  pub steps : hit.steps < 2 * geo.chunks
+  pub slot : hit.slot < 2 * geo.chunks
+  pub chunk : hit.chunk < geo.chunks
+
 -- what a search at so many steps or more finds
 abbrev pub Finds : Geo → List ℕ → ℕ → ℕ → ℕ → Option Hit → Type 0
 Finds geo words place fingerprint from found =

@@ -1,4 +1,5 @@
 -- The slots of a tier as a ring (own).
+use Rattle.cm_words.specs.Stores.{WordStore, store_at}
 use Rattle.std.specs.Prelude.{ℕ, ◌≡◌, ◌+◌, ◌*◌, ◌/◌, ◌^◌, ◌<◌, List, ◌∷◌, map, None, Some}
 use Rattle.std.specs.List.{range_with_len}
 use Rattle.std.specs.List.Sorted.{IsPermutation}
@@ -18,8 +19,8 @@ unfoldable pub slot_words : Geo → List ℕ → ℕ → List ℕ
 slot_words geo words place = map (λ slot. word_at words (slot_at geo place slot)) (range_with_len 0 (2 * geo.chunks))
 
 -- stores at slots as stores at the words of those slots
-abbrev pub at_slots : Geo → ℕ → List (ℕ × ℕ) → List (ℕ × ℕ)
-at_slots geo place stores = map (λ store. (slot_at geo place store.0, store.1)) stores
+abbrev pub at_slots : Geo → ℕ → List WordStore → List WordStore
+at_slots geo place stores = map (λ store. store_at (slot_at geo place store.at) store.word) stores
 
 -- the word of a slot that points to a chunk
 abbrev pub slot_word : ℕ → ℕ → ℕ

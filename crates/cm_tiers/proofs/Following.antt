@@ -12,6 +12,7 @@ use Rattle.cm_plain.specs.FoundChains.{chain_of, chain_from}
 use Rattle.cm_plain.proofs.Chains.{IsOutside, chain_with}
 use Rattle.cm_words.specs.Memory.{FitsNotes, MemSeen}
 use Rattle.cm_words.specs.Effects.{Reads, Knows}
+use Rattle.cm_words.proofs.FittingLists.{known_word}
 use Rattle.cm_tiers.proofs.Inner.{link_inner}
 use Rattle.cm_tiers.proofs.ChainLength.{leads_outside, short_beside}
 use Rattle.cm_tiers.proofs.ChainSteps.{ends, first_place, goes_on, is_cut}
@@ -30,12 +31,6 @@ pub record Followed (m : MemSeen) (geo : Geo) (places : List ℕ) (len place : �
   pub inside : place < geo.tiers
   pub led : (words : List ℕ) → FitsNotes m words → chain_of geo words ≡ chain_from (geo.tiers + 1 - len) geo words (take len places) place
 
--- the link that was told stands in its place
-pub told_link : (m : MemSeen) (geo : Geo) (place at link : ℕ) → at ≡ tier_at geo place → Knows m at link → (words : List ℕ) → FitsNotes m words → word_at words (tier_at geo place) ≡ link
-told_link m geo place at link at_is knows words fits =
-    let behind : 0 < at = omega (arith, at_is, link_inner geo place) in
-    ap (λ (k : ℕ). get_or words k 0) (sym at_is) ∙ knows.here (λ _. behind) words fits
-
 -- there is a link to be followed
 one_more : (geo : Geo) (words places : List ℕ) (len place : ℕ) → len ≤ geo.tiers → chain_from (geo.tiers + 1 - len) geo words places place ≡ chain_from (suc (geo.tiers - len)) geo words places place
 one_more geo words places len place within_limit = let e : geo.tiers + 1 - len ≡ suc (geo.tiers - len) = omega arith in ap (λ (n : ℕ). chain_from n geo words places place) e
@@ -44,14 +39,14 @@ pub found_end : (a b : MemSeen) (geo : Geo) (places : List ℕ) (len place at li
     → (words : List ℕ) → FitsNotes b words → chain_of geo words ≡ record { places = take len places; cut = false }
 found_end a b geo places len place at link so_far reads at_is knows none words fits =
     so_far.led words (reads.fits words fits) ∙ (one_more geo words (take len places) len place so_far.found.within_limit
-    ∙ ends (geo.tiers - len) geo words (take len places) place (told_link b geo place at link at_is knows words fits ∙ none))
+    ∙ ends (geo.tiers - len) geo words (take len places) place (known_word b (tier_at geo place) at link (link_inner geo place) at_is knows words fits ∙ none))
 
 pub found_cut : (a b : MemSeen) (geo : Geo) (places : List ℕ) (len place at link : ℕ) → Followed a geo places len place → Reads a b → at ≡ tier_at geo place → Knows b at link → link ≢ 0
     → (nat_le geo.tiers link || list_any (λ earlier. earlier == link) (take len places)) ≡ true
     → (words : List ℕ) → FitsNotes b words → chain_of geo words ≡ record { places = take len places; cut = true }
 found_cut a b geo places len place at link so_far reads at_is knows nonzero nowhere words fits =
     so_far.led words (reads.fits words fits) ∙ (one_more geo words (take len places) len place so_far.found.within_limit
-    ∙ is_cut (geo.tiers - len) geo words (take len places) place link (told_link b geo place at link at_is knows words fits) nonzero nowhere)
+    ∙ is_cut (geo.tiers - len) geo words (take len places) place link (known_word b (tier_at geo place) at link (link_inner geo place) at_is knows words fits) nonzero nowhere)
 
 -- a link that leads somewhere finds room among the eight words
 pub has_room : (geo : Geo) (places : List ℕ) (len link : ℕ) → Found geo places len → (nat_le geo.tiers link || list_any (λ earlier. earlier == link) (take len places)) ≡ false → len < geo.tiers
@@ -89,7 +84,7 @@ follows_on a b geo places len place at link so_far reads at_is knows nonzero som
       inside = outside.below;
       led = λ words fits.
           so_far.led words (reads.fits words fits) ∙ (one_more geo words (take len places) len place so_far.found.within_limit
-          ∙ (goes_on (geo.tiers - len) geo words (take len places) place link (told_link b geo place at link at_is knows words fits) nonzero somewhere
+          ∙ (goes_on (geo.tiers - len) geo words (take len places) place link (known_word b (tier_at geo place) at link (link_inner geo place) at_is knows words fits) nonzero somewhere
           ∙ (ap (λ (n : ℕ). chain_from n geo words (take len places ++ link ∷ []) link) left
           ∙ ap (λ (ps : List ℕ). chain_from (geo.tiers + 1 - (len + 1)) geo words ps link) (sym taken))));
     }

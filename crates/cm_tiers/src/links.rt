@@ -1,14 +1,11 @@
 //! Reading and storing the links of tiers.
 
-ghost use Rattle.std.specs.Prelude.{◌≡◌, ◌≢◌, ◌<◌, ◌==◌, ◌||◌, IfOk, OnOk, OnErr, List, ℕ, [], ◌∷◌, nat_le};
+ghost use Rattle.std.specs.Prelude.{◌≡◌, ◌+◌, ◌<◌, ◌==◌, ◌||◌, IfOk, List, ℕ, nat_le};
 ghost use Rattle.std.specs.List.{list_any};
 ghost use Rattle.cm_geo.specs.Addresses.{tier_at};
 ghost use Rattle.cm_plain.specs.Slots.{word_at};
-ghost use Rattle.cm_words.specs.Memory.{MemSeen, FitsNotes, MayStore};
-ghost use Rattle.cm_words.specs.Meters.{ReportsDeath, MakesEvent};
-ghost use Rattle.cm_words.specs.Effects.{IsAsBefore, Reads, Writes};
-ghost use Rattle.cm_words.specs.declared.access.Access.TheVariants.{Closed, Writable};
-ghost use Rattle.cm_words.specs.declared.fuse.EventKind.TheVariants.{Load, Store};
+ghost use Rattle.cm_words.specs.Memory.{FitsNotes, MayStore};
+ghost use Rattle.cm_words.specs.Calls.{IsReadable, IsWritable, Loads, LoadsOnce, StoresOnce};
 ghost use Rattle.cm_tiers.specs.Chains.{IsRead, IsLinked, LinksTo};
 
 use crate::places::Chain;
@@ -25,11 +22,9 @@ fn leads_nowhere(geo: &Geo, places: &[u32], link: u64) -> bool
 /// The chain from place 0 by the links, one load for each tier of it, whatever words stand there. It
 /// goes up to a link of 0, or up to the first one that leads nowhere, where it is cut.
 pub fn chain<M: Mem>(mem: &mut M, geo: &Geo) -> Result<Chain, Dead>
-    requires open { (M.seen mem.old).setting.access ≢ Closed }
-    requires geo { (M.seen mem.old).setting.geo ≡ geo.now }
-    ensures rest { M.same_rest mem.old mem.new }
-    ensures fuse { ReportsDeath (M.seen mem.old).meter (M.seen mem.new).meter result }
-    ensures reads { Reads (M.seen mem.old) (M.seen mem.new) }
+    requires readable { IsReadable (M.seen mem.old) geo.now }
+    ensures loads { Loads M.seen M.same_rest mem.old mem.new result }
+    ensures count { IfOk result (λ chain. (M.seen mem.new).meter.events ≡ (M.seen mem.old).meter.events + chain.len) }
     ensures read { IfOk result (IsRead geo.now) }
     ensures linked { IfOk result (λ chain. (words : List ℕ) → FitsNotes (M.seen mem.new) words → IsLinked geo.now words chain) }
 {
@@ -66,13 +61,9 @@ pub fn chain<M: Mem>(mem: &mut M, geo: &Geo) -> Result<Chain, Dead>
 /// The place to which a tier links, whatever word stands there. None where the link is 0, or leads to no
 /// place of the geometry.
 pub fn next<M: Mem>(mem: &mut M, geo: &Geo, place: u32) -> Result<Option<u32>, Dead>
-    requires open { (M.seen mem.old).setting.access ≢ Closed }
-    requires geo { (M.seen mem.old).setting.geo ≡ geo.now }
+    requires readable { IsReadable (M.seen mem.old) geo.now }
     requires place { place < geo.now.tiers }
-    ensures rest { M.same_rest mem.old mem.new }
-    ensures fuse { ReportsDeath (M.seen mem.old).meter (M.seen mem.new).meter result }
-    ensures reads { Reads (M.seen mem.old) (M.seen mem.new) }
-    ensures event { MakesEvent Load (M.seen mem.old).meter (M.seen mem.new).meter result }
+    ensures loads { LoadsOnce M.seen M.same_rest mem.old mem.new result }
     ensures linked { IfOk result (λ next. (words : List ℕ) → FitsNotes (M.seen mem.new) words → LinksTo geo.now (word_at words (tier_at geo.now place)) next) }
 {
     let link = mem.load(geo.tier_at(place))?;
@@ -93,16 +84,11 @@ fn place_of(geo: &Geo, link: u64) -> Option<u32>
 /// Links a tier behind the chain's last one, by one store of the last one's link.
 #[tactic(auto, using(crate::proofs::Inner::link_inner))]
 pub fn link<M: Mem>(mem: &mut M, geo: &Geo, last: u32, place: u32) -> Result<(), Dead>
-    requires writable { (M.seen mem.old).setting.access ≡ Writable }
-    requires geo { (M.seen mem.old).setting.geo ≡ geo.now }
+    requires writable { IsWritable (M.seen mem.old) geo.now }
     requires last { last < geo.now.tiers }
     requires place { place < geo.now.tiers }
     requires allowed { MayStore (M.seen mem.old) (tier_at geo.now last) place }
-    ensures rest { M.same_rest mem.old mem.new }
-    ensures fuse { ReportsDeath (M.seen mem.old).meter (M.seen mem.new).meter result }
-    ensures event { MakesEvent Store (M.seen mem.old).meter (M.seen mem.new).meter result }
-    ensures linked { OnOk result (Writes (M.seen mem.old) (M.seen mem.new) ((tier_at geo.now last, place) ∷ [])) }
-    ensures dead { OnErr result (IsAsBefore (M.seen mem.old) (M.seen mem.new)) }
+    ensures { StoresOnce M.seen M.same_rest (tier_at geo.now last) place mem.old mem.new result }
 {
     mem.store(geo.tier_at(last), u64::from(place))?;
     Ok(())

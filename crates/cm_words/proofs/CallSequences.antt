@@ -7,7 +7,7 @@ use Rattle.cm_words.specs.declared.fuse.EventKind.{EventKind}
 use Rattle.cm_words.specs.declared.fuse.EventKind.TheVariants.{Load}
 use Rattle.cm_words.specs.Meters.{MakesEvent, MeterSeen, ReportsDeath}
 use Rattle.cm_words.specs.Effects.{IsAsBefore, Reads}
-use Rattle.cm_words.specs.Calls.{HasDone, HasLoaded, LoadsOnce, Performs, PerformsOnce}
+use Rattle.cm_words.specs.Calls.{HasDone, HasLoaded, Loads, LoadsOnce, Performs, PerformsOnce}
 use Rattle.cm_words.proofs.MeterCounts.{reports_after, survives_killed, survives_reflexive, survives_transitive}
 use Rattle.cm_words.proofs.FittingLists.{reads_reflexive, reads_transitive}
 
@@ -105,3 +105,26 @@ once_ok seen rest kind Done a b value still fuse event done = record {
 -- a load counts no store
 pub load_no_store : {E : Type 0} (a b : MeterSeen) → MakesEvent {T = Unit {0}} {E = E} Load a b (Ok tt) → b.stores ≡ a.stores
 load_no_store a b event = omega (arith, event.stores)
+
+-- ---- loads alone
+
+-- after loads one more was made, and the call ends well
+pub loads_more_ok : {M T U E F : Type 0} (seen : M → MemSeen) (rest : M → M → Type 0) (a b c : M) (value : T) (other : U) → (rest a b → rest b c → rest a c)
+    → HasLoaded seen rest a b → LoadsOnce {T = T} {E = E} seen rest b c (Ok value) → Loads {T = U} {E = F} seen rest a c (Ok other)
+loads_more_ok seen rest a b c value other on p q = ends_ok seen rest Reads Reads a c other (loaded_more seen rest a b c value on p q)
+
+-- or its event died
+pub loads_more_err : {M T U E F : Type 0} (seen : M → MemSeen) (rest : M → M → Type 0) (a b c : M) (error : E) (result : Result U F) → IsErr result → (rest a b → rest b c → rest a c)
+    → HasLoaded seen rest a b → LoadsOnce {T = T} seen rest b c (Err error) → Loads seen rest a c result
+loads_more_err seen rest a b c error result err on p q =
+    then_err seen rest Reads Reads IsAsBefore Reads Reads a b c error result err on p q.call (λ reads same. reads_transitive (seen a) (seen b) (seen c) reads same.reads)
+
+-- after loads another call that loads ends well
+pub loads_then_ok : {M T U E F : Type 0} (seen : M → MemSeen) (rest : M → M → Type 0) (a b c : M) (value : T) (other : U) → (rest a b → rest b c → rest a c)
+    → HasLoaded seen rest a b → Loads {T = T} {E = E} seen rest b c (Ok value) → Loads {T = U} {E = F} seen rest a c (Ok other)
+loads_then_ok seen rest a b c value other on p q = ends_ok seen rest Reads Reads a c other (loaded_then seen rest a b c on p (done_by seen rest Reads Reads b c value q))
+
+-- or one of its events died
+pub loads_then_err : {M T U E F : Type 0} (seen : M → MemSeen) (rest : M → M → Type 0) (a b c : M) (error : E) (result : Result U F) → IsErr result → (rest a b → rest b c → rest a c)
+    → HasLoaded seen rest a b → Loads {T = T} seen rest b c (Err error) → Loads seen rest a c result
+loads_then_err seen rest a b c error result err on p q = then_err seen rest Reads Reads Reads Reads Reads a b c error result err on p q (reads_transitive (seen a) (seen b) (seen c))

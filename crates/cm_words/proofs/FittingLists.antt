@@ -218,3 +218,7 @@ finishes_by old now number in_range setting plan notes = record {
     | inr ne ↦ rw (notes.others k ne) h
   ];
 }
+
+-- a word that is known stands at its address, which is neither the lock word nor the change number, in each list that fits
+pub known_word : (m : MemSeen) (address at word : ℕ) → 1 < address → at ≡ address → Knows m at word → (words : List ℕ) → FitsNotes m words → get_or words address 0 ≡ word
+known_word m address at word inner at_is knows words fits = ap (λ (k : ℕ). get_or words k 0) (sym at_is) ∙ knows.here (λ _. omega arith) words fits

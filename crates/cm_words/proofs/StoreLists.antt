@@ -135,8 +135,8 @@ writes_remade a b c at found word make reads inner knows is writes =
     reads_writes a b c (remade at make) reads
     (changes_as b c (λ before words. Leads b c (store_at at word ∷ []) before words) (λ before words. Leads b c (remade at make before) before words) writes
     (λ before words fits leads.
-        let made : word ≡ make (word_at before at) = is ∙ ap make (sym (knows.here (λ _. inner) before fits)) in
-        subst (λ (w : ℕ). Leads b c (store_at at w ∷ []) before words) made leads))
+    let made : word ≡ make (word_at before at) = is ∙ ap make (sym (knows.here (λ _. inner) before fits)) in
+    subst (λ (w : ℕ). Leads b c (store_at at w ∷ []) before words) made leads))
 
 -- ---- some stores, and then others
 
@@ -162,9 +162,9 @@ pub writes_then : (a b c : MemSeen) (all first then : List ℕ → List WordStor
 writes_then a b c all first then joined p q =
     changes_then a b c (λ before words. Leads a b (first before) before words) (λ before words. Leads b c (then before) before words) (λ before words. Leads a c (all before) before words) p q
     (λ before mid words _ one two.
-        let after : then mid ≡ then (after_stores before (first before)) = ap then (sym one.leads) in
-        leads_same a c (first before ++ then mid) (all before) before words (joined before ∙ ap (λ (ss : List WordStore). first before ++ ss) (sym after))
-        (leads_append a b c (first before) (then mid) before mid words one two))
+    let after : then mid ≡ then (after_stores before (first before)) = ap then (sym one.leads) in
+    leads_same a c (first before ++ then mid) (all before) before words (joined before ∙ ap (λ (ss : List WordStore). first before ++ ss) (sym after))
+    (leads_append a b c (first before) (then mid) before mid words one two))
 
 -- the first stores for each list, where the others are the same for each one
 pub may_prefix_each : (m : MemSeen) (first : List ℕ → List WordStore) (ts : List WordStore) → MayStoreEach m (λ words. first words ++ ts) → MayStoreEach m first

@@ -173,7 +173,10 @@ fn a_memory_asks_its_fuse_for_loads_and_stores_alone(rt: HostRuntime) -> Result<
     let mut fuse = AtExchanges { deaths: 0 };
     assert!(rt; answers(&mut fuse).iter().copied().eq("ggdggg".chars()));
     let mut words = Words::empty(rt.alloc(), &Geo::new(1, 1, 64, 4, 0)?)?;
-    assert_eq!(rt; begin_first_put(&mut words, AtExchanges { deaths: 0 }), Ok(()));
+    assert_eq!(rt;
+        begin_first_put(&mut words, AtExchanges { deaths: 0 }),
+        Ok(())
+    );
     Ok(())
 }
 

@@ -14,7 +14,7 @@ use Rattle.cm_words.proofs.plain.PlainMemMem.begin.Goals as goal
 pub returns-in_err-ask : goal.returns-in_err-ask
 returns-in_err-ask g c = record {
   begins = once_err (plain_seen g.F.Fuse.fused) SameRest Store (λ old now. Begins old now (plan_change c.args.plan.now)) _ _ _ c.from_residual.result c.from_residual.ensures.0 (record { name = refl; segment = refl; rest = refl }) c.in_err-ask.ensures.fuse c.in_err-ask.ensures.event
-    (as_before _ _ (record { setting = refl; plan = refl }) (λ k. refl) c.in_err-ask.ensures.dead_events c.in_err-ask.ensures.dead_stores);
+      (as_before _ _ (record { setting = refl; plan = refl }) (λ k. refl) c.in_err-ask.ensures.dead_events c.in_err-ask.ensures.dead_stores);
 }
 
 fits_next : (word : ℕ) → word < 2 ^ 63 → Fits w64 (word + 1)
@@ -55,8 +55,10 @@ returns g c =
     let words = m.words.now.words in
     let inside = number_inside m.words.now.geo in
     let within : m.start + 1 < length words = rw m.whole (place_inside m.words.now.geo m.segment m.start 1 m.here m.starts inside).0 in
-    record { begins = once_ok (plain_seen g.F.Fuse.fused) SameRest Store (λ old now. Begins old now (plan_change c.args.plan.now)) _ _ _
-    (record { name = refl; segment = refl; rest = rw (c.set.ensures, c.get-even.ensures, c.address-address.ensures.value) (rest_stored m.words.now m.segment m.start 1 _ m.starts inside) })
-    c.in_ok-ask.ensures.fuse c.in_ok-ask.ensures.event
-    (rw (c.of.ensures, c.set.ensures, c.get-even.ensures, c.address-address.ensures.value) (begins_by _ _ _ inside refl (ap Some c.set-2.ensures)
-    (notes_begun _ _ m.words.now.geo m.start words _ m.first.value.words inside within (m.fit (m.start + 1) 0 within) refl (λ k. refl) (λ k. refl)))) }
+    record {
+      begins = once_ok (plain_seen g.F.Fuse.fused) SameRest Store (λ old now. Begins old now (plan_change c.args.plan.now)) _ _ _
+          (record { name = refl; segment = refl; rest = rw (c.set.ensures, c.get-even.ensures, c.address-address.ensures.value) (rest_stored m.words.now m.segment m.start 1 _ m.starts inside) })
+          c.in_ok-ask.ensures.fuse c.in_ok-ask.ensures.event
+          (rw (c.of.ensures, c.set.ensures, c.get-even.ensures, c.address-address.ensures.value) (begins_by _ _ _ inside refl (ap Some c.set-2.ensures)
+          (notes_begun _ _ m.words.now.geo m.start words _ m.first.value.words inside within (m.fit (m.start + 1) 0 within) refl (λ k. refl) (λ k. refl))));
+    }
