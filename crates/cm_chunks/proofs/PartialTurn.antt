@@ -1,6 +1,7 @@
 -- What a list of words is while the bits of a run are being set or cleared, and which of these stores are allowed.
 use Rattle.std.proofs.Common.{◌≡◌, ◌⊎◌, ℕ, suc, zero, ◌+◌, ◌/◌, ◌%◌, ◌<◌, List, [], ◌∷◌, length, take, get_or, refl, sym, subst, ap, ◌∙◌, arith, inl, inr, Option}
 use Rattle.std.proofs.lemmas.Bool.{cases_eq, cases_lt}
+use Rattle.cm_words.specs.Stores.{AllowsAll, WordStore, after_stores}
 use Rattle.cm_geo.specs.declared.geo.Geo.{Geo}
 use Rattle.cm_geo.specs.Addresses.{words_in_segment}
 use Rattle.cm_geo.proofs.Ranges.{chunks_whole}
@@ -8,14 +9,13 @@ use Rattle.cm_plain.specs.declared.plan.Run.{Run}
 use Rattle.cm_plain.specs.Changes.{Change}
 use Rattle.cm_plain.specs.Lawful.{HasBit}
 use Rattle.cm_words.specs.Memory.{IsAllowed, Setting}
-use Rattle.cm_words.specs.Effects.{AllowsAll, after_stores}
 use Rattle.cm_chunks.specs.declared.turn.Turn.{Turn}
 use Rattle.cm_chunks.specs.declared.turn.Turn.TheVariants.{Set, Clear}
-use Rattle.cm_chunks.specs.Turns.{stores_for}
-use Rattle.cm_chunks.specs.RunBits.{IsApart, IsInRun}
+use Rattle.cm_chunks.specs.Turns.{stores_for, stores_to_clear, stores_to_set}
+use Rattle.cm_chunks.specs.RunBits.{HasCleared, HasSet, IsApart, IsInRun}
 use Rattle.cm_chunks.proofs.Fitting.{bit_of}
 use Rattle.cm_chunks.proofs.TurnStores.{stores_one, stores_two}
-use Rattle.cm_chunks.proofs.TurnedRuns.{IsRunIn, IsTurned, bit_of_one, in_after, in_run_or_not, one_of_bit, other_after, out_after, run_turned, turned_at, turned_two, value_of}
+use Rattle.cm_chunks.proofs.TurnedRuns.{IsRunIn, IsTurned, bit_of_one, has_cleared, has_set, in_after, in_run_or_not, one_of_bit, other_after, out_after, run_turned, turned_at, turned_two, value_of}
 
 -- some of the run's bits have their new value, and all others stay
 pub record IsPartTurned (turn : Turn) (geo : Geo) (run : Run) (before words : List ℕ) : Type 0 where
@@ -48,21 +48,21 @@ pub run_part_turned : (turn : Turn) (geo : Geo) (run : Run) (made : ℕ) (words 
 unfolding turned_at
 run_part_turned turn geo run zero words length_is is_run = part_none turn geo run words
 run_part_turned turn geo run (suc zero) words length_is is_run = elim (cases_lt 64 (run.chunk % 64 + run.chunks)) [
-  | inl long ↦ subst (λ (w : List ℕ). IsPartTurned turn geo run words w) (sym (ap (λ (stores : List (ℕ × ℕ)). after_stores words (take (suc zero) stores)) (stores_two turn geo run is_run.inside long words))) (part_first turn geo run words length_is is_run)
-  | inr in_one_word ↦ subst (λ (w : List ℕ). IsPartTurned turn geo run words w) (sym (ap (λ (stores : List (ℕ × ℕ)). after_stores words (take (suc zero) stores)) (stores_one turn geo run in_one_word words))) (part_first turn geo run words length_is is_run)
+  | inl long ↦ subst (λ (w : List ℕ). IsPartTurned turn geo run words w) (sym (ap (λ (stores : List WordStore). after_stores words (take (suc zero) stores)) (stores_two turn geo run is_run.inside long words))) (part_first turn geo run words length_is is_run)
+  | inr in_one_word ↦ subst (λ (w : List ℕ). IsPartTurned turn geo run words w) (sym (ap (λ (stores : List WordStore). after_stores words (take (suc zero) stores)) (stores_one turn geo run in_one_word words))) (part_first turn geo run words length_is is_run)
 ]
 run_part_turned turn geo run (suc (suc made)) words length_is is_run = elim (cases_lt 64 (run.chunk % 64 + run.chunks)) [
   | inl long ↦
       let both = stores_two turn geo run is_run.inside long words in
       let all : take (suc (suc made)) (stores_for turn geo run words) ≡ stores_for turn geo run words = ap (take (suc (suc made))) both ∙ (whole_two made _ _ ∙ sym both) in
-      subst (λ (stores : List (ℕ × ℕ)). IsPartTurned turn geo run words (after_stores words stores)) (sym all) (part_all turn geo run words _ (run_turned turn geo run words length_is is_run))
+      subst (λ (stores : List WordStore). IsPartTurned turn geo run words (after_stores words stores)) (sym all) (part_all turn geo run words _ (run_turned turn geo run words length_is is_run))
   | inr in_one_word ↦
       let one = stores_one turn geo run in_one_word words in
       let all : take (suc (suc made)) (stores_for turn geo run words) ≡ stores_for turn geo run words = ap (take (suc (suc made))) one ∙ sym one in
-      subst (λ (stores : List (ℕ × ℕ)). IsPartTurned turn geo run words (after_stores words stores)) (sym all) (part_all turn geo run words _ (run_turned turn geo run words length_is is_run))
+      subst (λ (stores : List WordStore). IsPartTurned turn geo run words (after_stores words stores)) (sym all) (part_all turn geo run words _ (run_turned turn geo run words length_is is_run))
 ]
   where
-    whole_two : (made : ℕ) (s t : ℕ × ℕ) → take (suc (suc made)) (s ∷ t ∷ []) ≡ s ∷ t ∷ []
+    whole_two : (made : ℕ) (s t : WordStore) → take (suc (suc made)) (s ∷ t ∷ []) ≡ s ∷ t ∷ []
     whole_two zero s t = refl
     whole_two (suc made) s t = refl
 
@@ -107,7 +107,7 @@ pub allows_run : (setting : Setting) (plan : Option Change) (o : List ℕ) (turn
     → ((one later : List ℕ) → IsPartTurned turn geo run words one → IsPartTurned turn geo run words later → IsAllowed setting plan o one later) → AllowsAll setting plan o words (stores_for turn geo run words)
 unfolding turned_at
 allows_run setting plan o turn geo run words length_is is_run each = elim (cases_lt 64 (run.chunk % 64 + run.chunks)) [
-  | inl long ↦ subst (λ (stores : List (ℕ × ℕ)). AllowsAll setting plan o words stores) (sym (stores_two turn geo run is_run.inside long words)) (
+  | inl long ↦ subst (λ (stores : List WordStore). AllowsAll setting plan o words stores) (sym (stores_two turn geo run is_run.inside long words)) (
     each words (turned_at turn geo run (run.chunk / 64) words) (part_none turn geo run words) (part_first turn geo run words length_is is_run),
     (
       each (turned_at turn geo run (run.chunk / 64) words) (turned_at turn geo run (run.chunk / 64 + 1) (turned_at turn geo run (run.chunk / 64) words))
@@ -115,6 +115,28 @@ allows_run setting plan o turn geo run words length_is is_run each = elim (cases
       tt,
     ),
   )
-  | inr in_one_word ↦ subst (λ (stores : List (ℕ × ℕ)). AllowsAll setting plan o words stores) (sym (stores_one turn geo run in_one_word words))
+  | inr in_one_word ↦ subst (λ (stores : List WordStore). AllowsAll setting plan o words stores) (sym (stores_one turn geo run in_one_word words))
       (each words (turned_at turn geo run (run.chunk / 64) words) (part_none turn geo run words) (part_first turn geo run words length_is is_run), tt)
 ]
+
+-- ---- the same, of a run that is set and of one that is cleared
+
+pub allows_set : (setting : Setting) (plan : Option Change) (o : List ℕ) (geo : Geo) (run : Run) (words : List ℕ) → length words ≡ words_in_segment geo → IsRunIn geo run
+    → ((one later : List ℕ) → IsPartTurned Set geo run words one → IsPartTurned Set geo run words later → IsAllowed setting plan o one later) → AllowsAll setting plan o words (stores_to_set geo run words)
+allows_set setting plan o geo run words length_is is_run each = allows_run setting plan o Set geo run words length_is is_run each
+
+pub allows_clear : (setting : Setting) (plan : Option Change) (o : List ℕ) (geo : Geo) (run : Run) (words : List ℕ) → length words ≡ words_in_segment geo → IsRunIn geo run
+    → ((one later : List ℕ) → IsPartTurned Clear geo run words one → IsPartTurned Clear geo run words later → IsAllowed setting plan o one later) → AllowsAll setting plan o words (stores_to_clear geo run words)
+allows_clear setting plan o geo run words length_is is_run each = allows_run setting plan o Clear geo run words length_is is_run each
+
+pub run_part_set : (geo : Geo) (run : Run) (made : ℕ) (words : List ℕ) → length words ≡ words_in_segment geo → IsRunIn geo run → IsPartTurned Set geo run words (after_stores words (take made (stores_to_set geo run words)))
+run_part_set geo run made words length_is is_run = run_part_turned Set geo run made words length_is is_run
+
+pub run_part_cleared : (geo : Geo) (run : Run) (made : ℕ) (words : List ℕ) → length words ≡ words_in_segment geo → IsRunIn geo run → IsPartTurned Clear geo run words (after_stores words (take made (stores_to_clear geo run words)))
+run_part_cleared geo run made words length_is is_run = run_part_turned Clear geo run made words length_is is_run
+
+pub run_set : (geo : Geo) (run : Run) (words : List ℕ) → length words ≡ words_in_segment geo → IsRunIn geo run → HasSet geo run words (after_stores words (stores_to_set geo run words))
+run_set geo run words length_is is_run = has_set geo run words _ (run_turned Set geo run words length_is is_run)
+
+pub run_cleared : (geo : Geo) (run : Run) (words : List ℕ) → length words ≡ words_in_segment geo → IsRunIn geo run → HasCleared geo run words (after_stores words (stores_to_clear geo run words))
+run_cleared geo run words length_is is_run = has_cleared geo run words _ (run_turned Clear geo run words length_is is_run)

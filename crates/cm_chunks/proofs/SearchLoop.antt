@@ -6,31 +6,15 @@ use Rattle.cm_geo.specs.Addresses.{bits_at}
 use Rattle.cm_geo.proofs.AddressOrder.{bits_behind_head, tier_behind_head}
 use Rattle.cm_words.specs.Memory.{FitsNotes, MemSeen}
 use Rattle.cm_words.specs.Effects.{Reads, Knows}
-use Rattle.cm_words.specs.Meters.{Survives}
-use Rattle.cm_words.proofs.MeterCounts.{survives_transitive, survives_reflexive}
-use Rattle.cm_words.proofs.FittingLists.{reads_transitive, reads_reflexive}
+use Rattle.cm_words.proofs.FittingLists.{known_word}
 use Rattle.cm_chunks.specs.Bits.{AreClear, IsFirstClear}
 use Rattle.cm_chunks.specs.Free.{IsFirstFit, IsFreeRun}
-use Rattle.cm_chunks.specs.Passing.{ArePassed, Loaded}
+use Rattle.cm_chunks.specs.Passing.{ArePassed}
 use Rattle.cm_chunks.proofs.Fitting.{HasWord, fits_across, fits_inside, none_fits, passed_none, passes_word}
-
--- one more load
-pub loaded_more : (a b c : MemSeen) → Loaded a b → Reads b c → Survives b.meter c.meter → Loaded a c
-loaded_more a b c loaded reads survives = record { reads = reads_transitive a b c loaded.reads reads; survives = survives_transitive a.meter b.meter c.meter loaded.survives survives }
-
--- nothing was loaded
-pub loaded_none : (m : MemSeen) → Loaded m m
-loaded_none m = record { reads = reads_reflexive m; survives = survives_reflexive m.meter }
 
 -- a bit word stands behind the lock word and the change number
 pub bits_inner : (geo : Geo) (place number : ℕ) → 1 < bits_at geo place number
 bits_inner geo place number = omega (arith, tier_behind_head geo place, bits_behind_head geo place number)
-
--- the word that was told stands at its place
-pub told_word : (m : MemSeen) (geo : Geo) (place number at word : ℕ) → at ≡ bits_at geo place number → Knows m at word → (words : List ℕ) → FitsNotes m words → get_or words (bits_at geo place number) 0 ≡ word
-told_word m geo place number at word at_is knows words fits =
-    let behind : 0 < at = omega (arith, at_is, bits_inner geo place number) in
-    ap (λ (k : ℕ). get_or words k 0) (sym at_is) ∙ knows.here (λ _. behind) words fits
 
 -- what was loaded of a bit word
 pub record LoadedWord (a b : MemSeen) (geo : Geo) (place number word : ℕ) : Type 0 where
@@ -41,7 +25,7 @@ pub record LoadedWord (a b : MemSeen) (geo : Geo) (place number word : ℕ) : Ty
   pub small : word < 2 ^ 64
 
 pub has_word : (a b : MemSeen) (geo : Geo) (place number word : ℕ) → LoadedWord a b geo place number word → (words : List ℕ) → FitsNotes b words → HasWord geo words place number word
-has_word a b geo place number word loaded words fits = record { small = loaded.small; here = told_word b geo place number loaded.at word loaded.at_is loaded.knows words fits }
+has_word a b geo place number word loaded words fits = record { small = loaded.small; here = known_word b (bits_at geo place number) loaded.at word (bits_inner geo place number) loaded.at_is loaded.knows words fits }
 
 pub begin_passing : (m : MemSeen) (geo : Geo) (place chunks : ℕ) → ArePassed m geo place chunks 0 0
 begin_passing m geo place chunks words fits = passed_none geo words place chunks

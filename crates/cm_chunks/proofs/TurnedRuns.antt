@@ -13,13 +13,13 @@ use Rattle.cm_geo.proofs.Ranges.{chunks_whole}
 use Rattle.cm_plain.specs.declared.plan.Run.{Run}
 use Rattle.cm_plain.specs.Lawful.{HasBit}
 use Rattle.cm_words.specs.Memory.{FitsNotes, MemSeen}
-use Rattle.cm_words.specs.Stores.{WritesEach}
-use Rattle.cm_words.proofs.FittingLists.{after_stores_on}
-use Rattle.cm_words.specs.Effects.{after_stores}
+use Rattle.cm_words.specs.Stores.{Leads, WritesEach, after_stores}
+use Rattle.cm_words.proofs.StoreLists.{after_stores_append}
 use Rattle.cm_chunks.specs.declared.turn.Turn.{Turn}
 use Rattle.cm_chunks.specs.declared.turn.Turn.TheVariants.{Set, Clear}
 use Rattle.cm_chunks.specs.Turns.{bits_in, stores_for, stores_to_clear, stores_to_set, turn_at, turned_word}
-use Rattle.cm_chunks.specs.RunBits.{Clears, HasCleared, HasSet, IsApart, IsInRun, Sets}
+use Rattle.cm_chunks.specs.RunBits.{Clears, HasCleared, HasSet, IsApart, IsInRun, LeadsCleared, LeadsSet, Sets}
+use Rattle.cm_words.proofs.ListChanges.{changes_as}
 use Rattle.cm_chunks.proofs.WordBits.{one_of_set, power_grows, set_of_one}
 use Rattle.cm_chunks.proofs.Fitting.{bit_of}
 use Rattle.cm_chunks.proofs.TurnStores.{stores_one, stores_two}
@@ -172,7 +172,7 @@ pub run_turned : (turn : Turn) (geo : Geo) (run : Run) (words : List ℕ) → le
 unfolding turned_at
 run_turned turn geo run words length_is is_run = elim (cases_lt 64 (run.chunk % 64 + run.chunks)) [
   | inl long ↦ subst (λ (w : List ℕ). IsTurned turn geo run words w)
-      (sym (ap (after_stores words) (stores_two turn geo run is_run.inside long words) ∙ after_stores_on words (turn_at turn geo run (run.chunk / 64) words) (turn_at turn geo run (run.chunk / 64 + 1) (turned_at turn geo run (run.chunk / 64) words))))
+      (sym (ap (after_stores words) (stores_two turn geo run is_run.inside long words) ∙ after_stores_append words (turn_at turn geo run (run.chunk / 64) words) (turn_at turn geo run (run.chunk / 64 + 1) (turned_at turn geo run (run.chunk / 64) words))))
       (turned_two turn geo run words length_is is_run long)
   | inr in_one_word ↦ subst (λ (w : List ℕ). IsTurned turn geo run words w) (sym (ap (after_stores words) (stores_one turn geo run in_one_word words))) (turned_one turn geo run words length_is is_run in_one_word)
 ]
@@ -235,25 +235,11 @@ fit_long : (m : MemSeen) (geo : Geo) (words : List ℕ) → m.setting.geo ≡ ge
 fit_long m geo words is fits = fits.are.length_is ∙ ap words_in_segment is
 
 pub sets_run : (a b : MemSeen) (geo : Geo) (run : Run) → a.setting.geo ≡ geo → IsRunIn geo run → WritesEach a b (stores_to_set geo run) → Sets a b geo run
-sets_run a b geo run is is_run writes = record {
-  kept = writes.kept;
-  came = λ words fits.
-      let far = writes.came words fits in (
-        far.0,
-        far.1,
-        has_set geo run far.0 words (subst (λ (w : List ℕ). IsTurned Set geo run far.0 w) far.1.leads (run_turned Set geo run far.0 (fit_long a geo far.0 is far.1.fits) is_run)),
-      );
-  noted = writes.noted;
-}
+sets_run a b geo run is is_run writes =
+    changes_as a b (λ before words. Leads a b (stores_to_set geo run before) before words) (LeadsSet a b geo run) writes
+    (λ before words fits by. record { by = by; has = has_set geo run before words (subst (λ (w : List ℕ). IsTurned Set geo run before w) by.leads (run_turned Set geo run before (fit_long a geo before is fits) is_run)) })
 
 pub clears_run : (a b : MemSeen) (geo : Geo) (run : Run) → a.setting.geo ≡ geo → IsRunIn geo run → WritesEach a b (stores_to_clear geo run) → Clears a b geo run
-clears_run a b geo run is is_run writes = record {
-  kept = writes.kept;
-  came = λ words fits.
-      let far = writes.came words fits in (
-        far.0,
-        far.1,
-        has_cleared geo run far.0 words (subst (λ (w : List ℕ). IsTurned Clear geo run far.0 w) far.1.leads (run_turned Clear geo run far.0 (fit_long a geo far.0 is far.1.fits) is_run)),
-      );
-  noted = writes.noted;
-}
+clears_run a b geo run is is_run writes =
+    changes_as a b (λ before words. Leads a b (stores_to_clear geo run before) before words) (LeadsCleared a b geo run) writes
+    (λ before words fits by. record { by = by; has = has_cleared geo run before words (subst (λ (w : List ℕ). IsTurned Clear geo run before w) by.leads (run_turned Clear geo run before (fit_long a geo before is fits) is_run)) })

@@ -2,7 +2,6 @@
 pub mod Bits
 pub mod Free
 pub mod Passing
-pub mod Stores
 pub mod Turns
 pub mod RunBits
 pub mod Laws

@@ -3,14 +3,7 @@ use Rattle.std.specs.Prelude.{ℕ, ◌+◌, ◌*◌, ◌<◌, ◌≤◌, List}
 use Rattle.cm_geo.specs.declared.geo.Geo.{Geo}
 use Rattle.cm_plain.specs.Lawful.{HasBit}
 use Rattle.cm_words.specs.Memory.{FitsNotes, MemSeen}
-use Rattle.cm_words.specs.Meters.{Survives}
-use Rattle.cm_words.specs.Effects.{Reads}
 use Rattle.cm_chunks.specs.Free.{IsFreeRun}
-
--- loads alone, and no death
-pub record Loaded (old now : MemSeen) : Type 0 where
-  pub reads : Reads old now
-  pub survives : Survives old.meter now.meter
 
 -- a run that begins before a bit word begins among the last chunks before it, and goes on in it
 pub record GoesOn (number before chunks chunk : ℕ) : Type 0 where

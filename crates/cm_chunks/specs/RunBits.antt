@@ -5,8 +5,9 @@ use Rattle.cm_geo.specs.Addresses.{bits_at}
 use Rattle.cm_plain.specs.declared.plan.Run.{Run}
 use Rattle.cm_plain.specs.Slots.{word_at}
 use Rattle.cm_plain.specs.Lawful.{HasBit}
-use Rattle.cm_words.specs.Memory.{FitsNotes, MemSeen}
-use Rattle.cm_words.specs.Effects.{CameBy, Keeps, StaysNoted}
+use Rattle.cm_words.specs.Memory.{MemSeen}
+use Rattle.cm_words.specs.Effects.{Changes}
+use Rattle.cm_words.specs.Stores.{Leads}
 use Rattle.cm_chunks.specs.Turns.{stores_to_clear, stores_to_set}
 
 -- a chunk of a tier lies in a run
@@ -29,14 +30,20 @@ pub record HasCleared (geo : Geo) (run : Run) (before words : List ℕ) : Type 0
   pub bits : (place chunk : ℕ) → chunk < geo.chunks → (HasBit geo words place chunk ↔ ((IsInRun run place chunk → ⊥) × HasBit geo before place chunk))
   pub others : (at : ℕ) → IsApart geo run at → word_at words at ≡ word_at before at
 
--- the stores for one list that fitted before lead to each list that fits now, and set the run's bits
-pub record Sets (old now : MemSeen) (geo : Geo) (run : Run) : Type 0 where
-  pub kept : Keeps old now
-  pub came : (words : List ℕ) → FitsNotes now words → (before : List ℕ) × CameBy old now (stores_to_set geo run before) before words × HasSet geo run before words
-  pub noted : StaysNoted old now
+-- the stores for a list lead from it to another, and set the run's bits
+pub record LeadsSet (old now : MemSeen) (geo : Geo) (run : Run) (before words : List ℕ) : Type 0 where
+  pub by : Leads old now (stores_to_set geo run before) before words
+  pub has : HasSet geo run before words
 
--- or clear them
-pub record Clears (old now : MemSeen) (geo : Geo) (run : Run) : Type 0 where
-  pub kept : Keeps old now
-  pub came : (words : List ℕ) → FitsNotes now words → (before : List ℕ) × CameBy old now (stores_to_clear geo run before) before words × HasCleared geo run before words
-  pub noted : StaysNoted old now
+-- the bits of a run were set, and no other store was made
+abbrev pub Sets : MemSeen → MemSeen → Geo → Run → Type 0
+Sets old now geo run = Changes old now (LeadsSet old now geo run)
+
+-- the stores for a list lead from it to another, and clear the run's bits
+pub record LeadsCleared (old now : MemSeen) (geo : Geo) (run : Run) (before words : List ℕ) : Type 0 where
+  pub by : Leads old now (stores_to_clear geo run before) before words
+  pub has : HasCleared geo run before words
+
+-- the bits of a run were cleared, and no other store was made
+abbrev pub Clears : MemSeen → MemSeen → Geo → Run → Type 0
+Clears old now geo run = Changes old now (LeadsCleared old now geo run)

@@ -1,10 +1,8 @@
 //! Free chunks of a tier.
 
-ghost use Rattle.std.specs.Prelude.{◌≡◌, ◌≢◌, ◌+◌, ◌/◌, ◌<◌, ◌≤◌, ◌↔◌, IfOk, OnOk, IsTrue, List, ℕ};
-ghost use Rattle.cm_words.specs.Memory.{MemSeen, FitsNotes};
-ghost use Rattle.cm_words.specs.Meters.{ReportsDeath};
-ghost use Rattle.cm_words.specs.Effects.{Reads};
-ghost use Rattle.cm_words.specs.declared.access.Access.TheVariants.{Closed};
+ghost use Rattle.std.specs.Prelude.{◌+◌, ◌/◌, ◌<◌, ◌≤◌, ◌↔◌, IfOk, IfSome, IsTrue, List, OnOk, ℕ};
+ghost use Rattle.cm_words.specs.Memory.{FitsNotes};
+ghost use Rattle.cm_words.specs.Calls.{IsReadable, Loads};
 ghost use Rattle.cm_chunks.specs.Free.{FindsFit, IsFreeRun};
 
 use crate::bits::{bits_between, clear_run_in};
@@ -20,16 +18,14 @@ pub fn first_fit<M: Mem>(
     place: u32,
     chunks: u32,
 ) -> Result<Option<u32>, Dead>
-    requires open { (M.seen mem.old).setting.access ≢ Closed }
-    requires geo { (M.seen mem.old).setting.geo ≡ geo.now }
+    requires readable { IsReadable (M.seen mem.old) geo.now }
     requires place { place < geo.now.tiers }
     requires nonzero { 1 ≤ chunks }
     requires within_limit { chunks ≤ 64 }
-    ensures rest { M.same_rest mem.old mem.new }
-    ensures fuse { ReportsDeath (M.seen mem.old).meter (M.seen mem.new).meter result }
+    ensures loads { Loads M.seen M.same_rest mem.old mem.new result }
     ensures count { OnOk result ((M.seen mem.new).meter.events ≤ (M.seen mem.old).meter.events + geo.now.chunks / 64) }
-    ensures reads { Reads (M.seen mem.old) (M.seen mem.new) }
     ensures found { IfOk result (λ found. (words : List ℕ) → FitsNotes (M.seen mem.new) words → FindsFit geo.now words place chunks found) }
+    ensures inside { IfOk result (λ found. IfSome found (λ chunk. chunk + chunks ≤ geo.now.chunks)) }
 {
     // So many chunks before this word are free; a whole run among them would have been found.
     let mut before = 0;
@@ -56,17 +52,15 @@ pub fn free_after<M: Mem>(
     chunk: u32,
     chunks: u32,
 ) -> Result<bool, Dead>
-    requires open { (M.seen mem.old).setting.access ≢ Closed }
-    requires geo { (M.seen mem.old).setting.geo ≡ geo.now }
+    requires readable { IsReadable (M.seen mem.old) geo.now }
     requires place { place < geo.now.tiers }
     requires chunk { chunk ≤ geo.now.chunks }
     requires nonzero { 1 ≤ chunks }
     requires within_limit { chunks ≤ 64 }
-    ensures rest { M.same_rest mem.old mem.new }
-    ensures fuse { ReportsDeath (M.seen mem.old).meter (M.seen mem.new).meter result }
+    ensures loads { Loads M.seen M.same_rest mem.old mem.new result }
     ensures count { OnOk result ((M.seen mem.new).meter.events ≤ (M.seen mem.old).meter.events + 2) }
-    ensures reads { Reads (M.seen mem.old) (M.seen mem.new) }
     ensures free { IfOk result (λ free. (words : List ℕ) → FitsNotes (M.seen mem.new) words → (IsTrue free ↔ IsFreeRun geo.now words place chunk chunks)) }
+    ensures inside { IfOk result (λ free. IsTrue free → chunk + chunks ≤ geo.now.chunks) }
 {
     if geo.chunks() - chunk < chunks {
         return Ok(false);

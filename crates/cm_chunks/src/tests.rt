@@ -53,7 +53,7 @@ fn is_free(words: &Words, chunk: u32, chunks: u32) -> Result<bool, Dead>
 }
 
 // Sets or clears a run, until the fuse dies.
-#[tactic(auto, using(cm_words::proofs::Storing::may_store_each_free))]
+#[tactic(auto, using(cm_words::proofs::StoreLists::may_store_each_free))]
 fn turn<F: Fuse>(words: &mut Words, fuse: F, run: Run, sets: bool) -> Result<(), Dead>
     requires geo { IsGeoOf words.old.geo 1 1 128 4 0 }
     requires place { run.place ≡ 0 }

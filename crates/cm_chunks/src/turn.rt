@@ -1,13 +1,10 @@
 //! Setting and clearing the bits of a run of chunks.
 
-ghost use Rattle.std.specs.Prelude.{◌≡◌, ◌+◌, ◌-◌, ◌/◌, ◌^◌, ◌<◌, ◌≤◌, OnOk, OnErr, length};
-ghost use Rattle.cm_words.specs.Memory.{MemSeen};
-ghost use Rattle.cm_words.specs.Meters.{ReportsDeath};
+ghost use Rattle.std.specs.Prelude.{◌≡◌, ◌+◌, ◌*◌, ◌/◌, ◌<◌, ◌≤◌, OnOk, length};
 ghost use Rattle.cm_words.specs.Effects.{Reads};
 ghost use Rattle.cm_words.specs.Stores.{MayStoreEach, WritesEach, WritesPrefixEach};
-ghost use Rattle.cm_words.specs.declared.access.Access.TheVariants.{Writable};
-ghost use Rattle.cm_chunks.specs.Turns.{bits_in, stores_for, stores_to_clear, stores_to_set, bit_words_of, turn_at, turned_word};
-ghost use Rattle.cm_chunks.specs.Stores.{Rewrites};
+ghost use Rattle.cm_words.specs.Calls.{IsWritable, Performs, StoresEach};
+ghost use Rattle.cm_chunks.specs.Turns.{bit_words_of, bits_in, stores_for, stores_to_clear, stores_to_set, turn_at, turned_word};
 ghost use Rattle.cm_chunks.specs.RunBits.{Clears, Sets};
 
 use crate::bits::bits_between;
@@ -44,17 +41,13 @@ fn turn_word<M: Mem>(
     bits: u64,
     turn: Turn,
 ) -> Result<(), Dead>
-    requires writable { (M.seen mem.old).setting.access ≡ Writable }
-    requires geo { (M.seen mem.old).setting.geo ≡ geo.now }
+    requires writable { IsWritable (M.seen mem.old) geo.now }
     requires place { run.place < geo.now.tiers }
     requires number { number < geo.now.chunks / 64 }
     requires bits { bits ≡ bits_in run number }
     requires allowed { MayStoreEach (M.seen mem.old) (turn_at turn geo.now run number) }
-    ensures rest { M.same_rest mem.old mem.new }
-    ensures fuse { ReportsDeath (M.seen mem.old).meter (M.seen mem.new).meter result }
-    ensures count { OnOk result (Rewrites (M.seen mem.old).meter (M.seen mem.new).meter 1) }
-    ensures stored { OnOk result (WritesEach (M.seen mem.old) (M.seen mem.new) (turn_at turn geo.now run number)) }
-    ensures dead { OnErr result (Reads (M.seen mem.old) (M.seen mem.new)) }
+    ensures stores { Performs M.seen M.same_rest (λ old now. WritesEach old now (turn_at turn geo.now run number)) Reads mem.old mem.new result }
+    ensures count { OnOk result ((M.seen mem.new).meter.events ≡ (M.seen mem.old).meter.events + 2) }
 {
     let at = geo.bits_at(run.place, number);
     let word = mem.load(at)?;
@@ -64,18 +57,14 @@ fn turn_word<M: Mem>(
 
 /// Sets or clears the bits of a run, the lower bit word first.
 fn turn_run<M: Mem>(mem: &mut M, geo: &Geo, run: Run, turn: Turn) -> Result<(), Dead>
-    requires writable { (M.seen mem.old).setting.access ≡ Writable }
-    requires geo { (M.seen mem.old).setting.geo ≡ geo.now }
+    requires writable { IsWritable (M.seen mem.old) geo.now }
     requires place { run.place < geo.now.tiers }
     requires nonzero { 1 ≤ run.chunks }
     requires within_limit { run.chunks ≤ 64 }
     requires inside { run.chunk + run.chunks ≤ geo.now.chunks }
     requires allowed { MayStoreEach (M.seen mem.old) (stores_for turn geo.now run) }
-    ensures rest { M.same_rest mem.old mem.new }
-    ensures fuse { ReportsDeath (M.seen mem.old).meter (M.seen mem.new).meter result }
-    ensures count { OnOk result (Rewrites (M.seen mem.old).meter (M.seen mem.new).meter (length (bit_words_of run))) }
-    ensures stored { OnOk result (WritesEach (M.seen mem.old) (M.seen mem.new) (stores_for turn geo.now run)) }
-    ensures dead { OnErr result (WritesPrefixEach (M.seen mem.old) (M.seen mem.new) (stores_for turn geo.now run)) }
+    ensures stores { StoresEach M.seen M.same_rest (stores_for turn geo.now run) mem.old mem.new result }
+    ensures count { OnOk result ((M.seen mem.new).meter.events ≡ (M.seen mem.old).meter.events + 2 * length (bit_words_of run)) }
 {
     let number = run.chunk / 64;
     let from = run.chunk % 64;
@@ -91,18 +80,15 @@ fn turn_run<M: Mem>(mem: &mut M, geo: &Geo, run: Run, turn: Turn) -> Result<(), 
 
 /// Sets the bits of a run of 1 to 64 chunks; all other bits stay.
 pub fn set<M: Mem>(mem: &mut M, geo: &Geo, run: Run) -> Result<(), Dead>
-    requires writable { (M.seen mem.old).setting.access ≡ Writable }
-    requires geo { (M.seen mem.old).setting.geo ≡ geo.now }
+    requires writable { IsWritable (M.seen mem.old) geo.now }
     requires place { run.place < geo.now.tiers }
     requires nonzero { 1 ≤ run.chunks }
     requires within_limit { run.chunks ≤ 64 }
     requires inside { run.chunk + run.chunks ≤ geo.now.chunks }
     requires allowed { MayStoreEach (M.seen mem.old) (stores_to_set geo.now run) }
-    ensures rest { M.same_rest mem.old mem.new }
-    ensures fuse { ReportsDeath (M.seen mem.old).meter (M.seen mem.new).meter result }
-    ensures count { OnOk result (Rewrites (M.seen mem.old).meter (M.seen mem.new).meter (length (bit_words_of run))) }
-    ensures set { OnOk result (Sets (M.seen mem.old) (M.seen mem.new) geo.now run) }
-    ensures dead { OnErr result (WritesPrefixEach (M.seen mem.old) (M.seen mem.new) (stores_to_set geo.now run)) }
+    ensures stores { Performs M.seen M.same_rest (λ old now. Sets old now geo.now run)
+        (λ old now. WritesPrefixEach old now (stores_to_set geo.now run)) mem.old mem.new result }
+    ensures count { OnOk result ((M.seen mem.new).meter.events ≡ (M.seen mem.old).meter.events + 2 * length (bit_words_of run)) }
 {
     turn_run(mem, geo, run, Turn::Set)?;
     Ok(())
@@ -110,18 +96,15 @@ pub fn set<M: Mem>(mem: &mut M, geo: &Geo, run: Run) -> Result<(), Dead>
 
 /// Clears the bits of a run of 1 to 64 chunks; all other bits stay.
 pub fn clear<M: Mem>(mem: &mut M, geo: &Geo, run: Run) -> Result<(), Dead>
-    requires writable { (M.seen mem.old).setting.access ≡ Writable }
-    requires geo { (M.seen mem.old).setting.geo ≡ geo.now }
+    requires writable { IsWritable (M.seen mem.old) geo.now }
     requires place { run.place < geo.now.tiers }
     requires nonzero { 1 ≤ run.chunks }
     requires within_limit { run.chunks ≤ 64 }
     requires inside { run.chunk + run.chunks ≤ geo.now.chunks }
     requires allowed { MayStoreEach (M.seen mem.old) (stores_to_clear geo.now run) }
-    ensures rest { M.same_rest mem.old mem.new }
-    ensures fuse { ReportsDeath (M.seen mem.old).meter (M.seen mem.new).meter result }
-    ensures count { OnOk result (Rewrites (M.seen mem.old).meter (M.seen mem.new).meter (length (bit_words_of run))) }
-    ensures cleared { OnOk result (Clears (M.seen mem.old) (M.seen mem.new) geo.now run) }
-    ensures dead { OnErr result (WritesPrefixEach (M.seen mem.old) (M.seen mem.new) (stores_to_clear geo.now run)) }
+    ensures stores { Performs M.seen M.same_rest (λ old now. Clears old now geo.now run)
+        (λ old now. WritesPrefixEach old now (stores_to_clear geo.now run)) mem.old mem.new result }
+    ensures count { OnOk result ((M.seen mem.new).meter.events ≡ (M.seen mem.old).meter.events + 2 * length (bit_words_of run)) }
 {
     turn_run(mem, geo, run, Turn::Clear)?;
     Ok(())

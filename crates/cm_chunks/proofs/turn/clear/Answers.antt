@@ -1,7 +1,17 @@
+use Rattle.cm_words.specs.Stores.{WritesPrefixEach}
+use Rattle.cm_words.proofs.CallSequences.{ends_err, ends_ok}
+use Rattle.cm_chunks.specs.RunBits.{Clears}
+use Rattle.cm_chunks.specs.Turns.{stores_to_clear}
 use Rattle.cm_chunks.proofs.TurnedRuns.{clears_run}
 use Rattle.cm_chunks.proofs.turn.clear.Goals as goal
 
-pub returns-clause-cleared : goal.returns-clause-cleared
-returns-clause-cleared g c =
-    clears_run (g.M.Mem.seen c.args.mem.now) _ c.args.geo.now c.args.run c.requires.geo
-    (record { place_inside = c.requires.place; nonzero = c.requires.nonzero; within_limit = c.requires.within_limit; inside = c.requires.inside }) c.in_ok-turn_run.ensures.stored
+pub returns-in_err-turn_run-clause-stores : goal.returns-in_err-turn_run-clause-stores
+returns-in_err-turn_run-clause-stores g c = ends_err g.M.Mem.seen g.M.Mem.same_rest _ _ (λ old now. Clears old now c.args.geo.now c.args.run) (λ old now. WritesPrefixEach old now (stores_to_clear c.args.geo.now c.args.run)) _ _ _ c.from_residual.result c.from_residual.ensures.0 c.in_err-turn_run.ensures.stores (λ part. part)
+
+pub returns-clause-stores : goal.returns-clause-stores
+returns-clause-stores g c =
+    ends_ok g.M.Mem.seen g.M.Mem.same_rest (λ old now. Clears old now c.args.geo.now c.args.run) (λ old now. WritesPrefixEach old now (stores_to_clear c.args.geo.now c.args.run)) _ c.turn_run.new.mem _ (record {
+      rest = c.in_ok-turn_run.ensures.stores.rest;
+      survives = c.in_ok-turn_run.ensures.stores.fuse.survives;
+      done = clears_run (g.M.Mem.seen c.args.mem.now) _ c.args.geo.now c.args.run c.requires.writable.geo_is (record { place_inside = c.requires.place; nonzero = c.requires.nonzero; within_limit = c.requires.within_limit; inside = c.requires.inside }) c.in_ok-turn_run.ensures.stores.done;
+    })
