@@ -1,6 +1,7 @@
 -- How the words of a segment stand for a state while no change is under way (own; the slot law is after Chronicle Map).
 use Rattle.std.specs.Prelude.{ℕ, ◌≡◌, ◌≢◌, ◌+◌, ◌-◌, ◌*◌, ◌/◌, ◌%◌, ◌^◌, ◌<◌, ◌≤◌, ◌==◌, ◌↔◌, false, List, length, filter, All, Contains, IsBitSet, Some, None}
 use Rattle.cm_geo.specs.declared.geo.Geo.{Geo}
+use Rattle.cm_geo.specs.declared.limits.TheConstants.{WORD_BITS}
 use Rattle.cm_geo.specs.Addresses.{bits_at, tier_at, words_in_segment}
 use Rattle.cm_geo.specs.Hash.{home_in}
 use Rattle.cm_plain.specs.declared.placed.Placed.{Placed}
@@ -49,7 +50,7 @@ pub record IsTaken (geo : Geo) (state : State) (place chunk : ℕ) : Type 0 wher
 
 -- the bit of a chunk
 abbrev pub HasBit : Geo → List ℕ → ℕ → ℕ → Type 0
-HasBit geo words place chunk = IsBitSet (word_at words (bits_at geo place (chunk / 64))) (chunk % 64)
+HasBit geo words place chunk = IsBitSet (word_at words (bits_at geo place (chunk / WORD_BITS))) (chunk % WORD_BITS)
 
 -- the words of a chained tier tell the state's entries there
 pub record TierRepresents (geo : Geo) (words : List ℕ) (state : State) (place : ℕ) : Type 0 where

@@ -3,6 +3,7 @@ use Rattle.std.specs.Prelude.{ℕ, ◌≡◌, ◌+◌, ◌-◌, ◌*◌, ◌/◌
 use Rattle.std.specs.List.{list_all}
 use Rattle.std.specs.Int.{to_le_bytes, w64}
 use Rattle.cm_geo.specs.declared.geo.Geo.{Geo}
+use Rattle.cm_geo.specs.declared.limits.TheConstants.{MAX_KEY_BYTES, MAX_RUN_CHUNKS, MAX_VALUE_BYTES}
 use Rattle.cm_geo.specs.Addresses.{chunk_at}
 use Rattle.cm_geo.specs.Hash.{hash}
 use Rattle.cm_geo.specs.Need.{need, parts_for}
@@ -44,8 +45,8 @@ value_bytes geo words place chunk head =
 -- the lengths may be stored, and the run lies in the tier
 abbrev pub lengths_fit : Geo → ℕ → ℕ → Bool
 lengths_fit geo chunk head =
-    nat_le 1 (key_len head) && (nat_le (key_len head) 256 && (nat_le (value_len head) 4096
-    && (nat_le (need geo (key_len head) (value_len head)) 64 && nat_le (chunk + need geo (key_len head) (value_len head)) geo.chunks)))
+    nat_le 1 (key_len head) && (nat_le (key_len head) MAX_KEY_BYTES && (nat_le (value_len head) MAX_VALUE_BYTES
+    && (nat_le (need geo (key_len head) (value_len head)) MAX_RUN_CHUNKS && nat_le (chunk + need geo (key_len head) (value_len head)) geo.chunks)))
 
 -- the checksum: the hash of the bytes of the first word, of the key's words and of the value's
 abbrev pub checksum : ℕ → List ℕ → List ℕ → ℕ

@@ -8,6 +8,7 @@ use Rattle.std.proofs.lemmas.List.{length-drop, length-take-le}
 use Rattle.std.proofs.lemmas.List.Elements.{All-from_recursion, recursion_from_All}
 use Rattle.std.proofs.lemmas.Slice.Eq.{bytes_eq-Decides}
 use Rattle.cm_geo.specs.declared.geo.Geo.{Geo}
+use Rattle.cm_geo.specs.declared.limits.TheConstants.{MAX_KEY_BYTES, MAX_RUN_CHUNKS, MAX_VALUE_BYTES}
 use Rattle.cm_geo.specs.Addresses.{chunk_at, words_in_segment}
 use Rattle.cm_geo.specs.Hash.{fingerprint_in, hash, segment_of_key}
 use Rattle.cm_geo.specs.Need.{Fits, need, parts_for}
@@ -149,8 +150,8 @@ stands_run geo words placed length_is low stands =
     let fits : Fits geo (key_len head) (value_len head) = record { key_some = fit.0; key_short = fit.1; value_short = fit.2; few_chunks = fit.3 } in
     record { fits = rw (key_length, value_length) fits; inside = rw (key_length, value_length) fit.4 }
   where
-    lengths_are : (key value need chunk chunks : ℕ) → (nat_le 1 key && (nat_le key 256 && (nat_le value 4096 && (nat_le need 64 && nat_le (chunk + need) chunks)))) ≡ true
-        → (1 ≤ key) × (key ≤ 256) × (value ≤ 4096) × (need ≤ 64) × (chunk + need ≤ chunks)
+    lengths_are : (key value need chunk chunks : ℕ) → (nat_le 1 key && (nat_le key MAX_KEY_BYTES && (nat_le value MAX_VALUE_BYTES && (nat_le need MAX_RUN_CHUNKS && nat_le (chunk + need) chunks)))) ≡ true
+        → (1 ≤ key) × (key ≤ MAX_KEY_BYTES) × (value ≤ MAX_VALUE_BYTES) × (need ≤ MAX_RUN_CHUNKS) × (chunk + need ≤ chunks)
     lengths_are key value need chunk chunks e =
         (grind (arith, nat_tests), grind (arith, nat_tests), grind (arith, nat_tests), grind (arith, nat_tests), grind (arith, nat_tests))
 

@@ -5,6 +5,7 @@ use Rattle.std.proofs.lemmas.Bool.Decides.{eqb_tells, nat_tests}
 use Rattle.std.proofs.lemmas.List.{length-drop, length-take-le}
 use Rattle.std.proofs.Math.Seq.{take-append_seam}
 use Rattle.cm_geo.specs.declared.geo.Geo.{Geo}
+use Rattle.cm_geo.specs.declared.limits.TheConstants.{MAX_KEY_BYTES, MAX_RUN_CHUNKS, MAX_VALUE_BYTES}
 use Rattle.cm_geo.specs.Addresses.{chunk_at, words_in_segment}
 use Rattle.cm_geo.specs.Need.{Fits, need, parts_for}
 use Rattle.cm_geo.proofs.AddressOrder.{run_in_range}
@@ -20,13 +21,13 @@ record TellsLengths (head : ℕ) (key value : List ℕ) : Type 0 where
   key_is : key_len head ≡ length key
   value_is : value_len head ≡ length value
 
-tells_lengths : (head : ℕ) (key value : List ℕ) → length key ≤ 256 → head ≡ head_of key value → TellsLengths head key value
+tells_lengths : (head : ℕ) (key value : List ℕ) → length key ≤ MAX_KEY_BYTES → head ≡ head_of key value → TellsLengths head key value
 tells_lengths head key value short e = record { key_is = low head (length key) (length value) short e; value_is = high head (length key) (length value) short e }
   where
-    low : (head key value : ℕ) → key ≤ 256 → head ≡ key + 2 ^ 32 * value → head % 2 ^ 32 ≡ key
+    low : (head key value : ℕ) → key ≤ MAX_KEY_BYTES → head ≡ key + 2 ^ 32 * value → head % 2 ^ 32 ≡ key
     low head key value h e = omega arith
 
-    high : (head key value : ℕ) → key ≤ 256 → head ≡ key + 2 ^ 32 * value → head / 2 ^ 32 ≡ value
+    high : (head key value : ℕ) → key ≤ MAX_KEY_BYTES → head ≡ key + 2 ^ 32 * value → head / 2 ^ 32 ≡ value
     high head key value h e = omega arith
 
 -- such lengths may be stored
@@ -35,8 +36,8 @@ fits_there : (geo : Geo) (chunk head : ℕ) (key value : List ℕ) → TellsLeng
 fits_there geo chunk head key value tells fits inside =
     rw (tells.key_is, tells.value_is) (all_of (length key) (length value) (need geo (length key) (length value)) chunk geo.chunks fits.key_some fits.key_short fits.value_short fits.few_chunks inside)
   where
-    all_of : (key value need chunk chunks : ℕ) → 1 ≤ key → key ≤ 256 → value ≤ 4096 → need ≤ 64 → chunk + need ≤ chunks
-        → (nat_le 1 key && (nat_le key 256 && (nat_le value 4096 && (nat_le need 64 && nat_le (chunk + need) chunks)))) ≡ true
+    all_of : (key value need chunk chunks : ℕ) → 1 ≤ key → key ≤ MAX_KEY_BYTES → value ≤ MAX_VALUE_BYTES → need ≤ MAX_RUN_CHUNKS → chunk + need ≤ chunks
+        → (nat_le 1 key && (nat_le key MAX_KEY_BYTES && (nat_le value MAX_VALUE_BYTES && (nat_le need MAX_RUN_CHUNKS && nat_le (chunk + need) chunks)))) ≡ true
     all_of key value need chunk chunks a b c d e = grind (arith, nat_tests)
 
 -- what is read there: a wrong checksum or filling, or the key and a value as long as the first word tells, with the checksum that stands there

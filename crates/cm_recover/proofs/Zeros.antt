@@ -8,6 +8,7 @@ use Rattle.std.proofs.lemmas.List.Elements.{All-from_recursion}
 use Rattle.std.proofs.lemmas.List.Sums.{sum_by-cons}
 use Rattle.std.proofs.lemmas.List.{get_or-replicate, get_or_past, length-replicate}
 use Rattle.cm_geo.specs.declared.geo.Geo.{Geo}
+use Rattle.cm_geo.specs.declared.limits.TheConstants.{MAX_RUN_CHUNKS, WORD_BITS}
 use Rattle.cm_geo.specs.Addresses.{bits_at, slot_at, tier_at, words_in_segment}
 use Rattle.cm_geo.specs.Hash.{segment_of_key}
 use Rattle.cm_geo.specs.Need.{Fits, need}
@@ -67,7 +68,7 @@ alone : (geo : Geo) (segment : ℕ) → chain_of geo (zeros geo segment) ≡ rec
 alone geo segment = alone_is geo (zeros geo segment) (all_zero (words_in_segment geo) (tier_at geo 0))
 
 no_bit : (geo : Geo) (segment place chunk : ℕ) → HasBit geo (zeros geo segment) place chunk → ⊥
-no_bit geo segment place chunk set = set (rw (all_zero (words_in_segment geo) (bits_at geo place (chunk / 64))) (none_set (2 ^ (chunk % 64))))
+no_bit geo segment place chunk set = set (rw (all_zero (words_in_segment geo) (bits_at geo place (chunk / WORD_BITS))) (none_set (2 ^ (chunk % WORD_BITS))))
   where
     none_set : (mask : ℕ) → bit_and 0 mask ≡ 0
     none_set mask = grind (arith, common_steps)
@@ -128,7 +129,7 @@ finds_first test zero nonzero passes = absurd (omega arith)
 finds_first test (suc n) nonzero passes = rw passes refl
 
 -- what fits has room at the first chunk of an empty tier
-first_room : (geo : Geo) (chunks : ℕ) → chunks ≤ 64 → first_fit geo one_tier chunks ≡ Some (record { place = 0; chunk = 0 })
+first_room : (geo : Geo) (chunks : ℕ) → chunks ≤ MAX_RUN_CHUNKS → first_fit geo one_tier chunks ≡ Some (record { place = 0; chunk = 0 })
 first_room geo chunks within_limit =
     let inside : nat_le (0 + chunks) geo.chunks ≡ true = grind (arith, nat_tests, chunks_range geo) in
     let free : is_free geo [] 0 0 chunks ≡ true = rw inside refl in

@@ -15,6 +15,7 @@ use Rattle.cm_plain.specs.States.{State}
 use Rattle.cm_plain.specs.Limits.{segment_of}
 use Rattle.cm_plain.specs.States.{Lists}
 use Rattle.cm_plain.specs.History.{Call, Legal, changes}
+use Rattle.cm_script.specs.declared.limits.TheConstants.{MAX_CALLERS}
 use Rattle.cm_script.specs.declared.line.Line.{Line}
 use Rattle.cm_script.specs.declared.report.Report.{Report}
 
@@ -27,7 +28,7 @@ abbrev pub records_of_caller : List Line → ℕ → List Numbered
 records_of_caller script caller = filter (λ asked. asked.1.caller == caller) (enumerate_from 1 script)
 
 unfoldable pub records_by_caller : List Line → List Numbered
-records_by_caller script = flat_map (records_of_caller script) (range_with_len 0 64)
+records_by_caller script = flat_map (records_of_caller script) (range_with_len 0 MAX_CALLERS)
 
 -- a receipt is of a record, with this part
 pub record IsOf (geo : Geo) (asked : Numbered) (part : ℕ) (receipt : Receipt) : Type 0 where
