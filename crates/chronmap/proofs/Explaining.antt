@@ -12,7 +12,7 @@ use Rattle.cm_plain.specs.declared.op.Op.{Op}
 use Rattle.cm_plain.specs.declared.op.Op.TheVariants.{Put, Get, PutIfAbsent, Replace, ReplaceIf, Remove, RemoveIf, Count, List as ListAll, Sweep}
 use Rattle.cm_plain.specs.declared.receipt.MapLine.{MapLine}
 use Rattle.cm_plain.specs.declared.receipt.Receipt.{Receipt}
-use Rattle.cm_plain.specs.History.{Call, Legal}
+use Rattle.cm_plain.specs.History.{Call, Legal, change_count}
 use Rattle.cm_plain.specs.Limits.{segment_of}
 use Rattle.cm_plain.specs.Segments.{Segment}
 use Rattle.cm_plain.specs.States.{one_tier}
@@ -21,7 +21,7 @@ use Rattle.cm_script.specs.Explained.{Answers, AnswersAll, AnswersBy, AnswersOnc
 use Rattle.cm_script.specs.Scripts.{IsFor, IsLineFor, is_built, is_built_op}
 use Rattle.chronmap.specs.RunRecords.{MapsState, Receives}
 use Rattle.chronmap.proofs.Answering.{all_of_first, answers_more, calls_more, numbered_more}
-use Rattle.chronmap.proofs.Histories.{More, begins, count, is_legal, more, state_at}
+use Rattle.chronmap.proofs.Histories.{More, begins, is_legal, more, state_at}
 
 -- the remainder by one
 rest_of_one : (n one : ℕ) → one ≡ 1 → n % one ≡ 0
@@ -128,10 +128,10 @@ explains geo script at receipts now lines extra one kept whole ran maps extra_is
     record {
       answered = rw first (rw all at ran.answered);
       states = λ segment. state_at ran.calls.hist;
-      legal = λ segment below. subst (λ (it : ℕ). Legal geo it one_tier 0 (state_at ran.calls.hist) (calls_in script receipts it)) (only_segment geo segment one below)
+      legal = λ segment below. subst (λ (it : ℕ). Legal geo it one_tier 0 (state_at ran.calls.hist) (change_count (calls_in script receipts it)) (calls_in script receipts it)) (only_segment geo segment one below)
           (is_legal geo calls ran.calls.hist now h);
       last = λ segment. now.state;
-      last_is = λ segment below. subst (λ (it : ℕ). now.state ≡ state_at ran.calls.hist (count (calls_in script receipts it))) (only_segment geo segment one below) (sym h.last);
+      last_is = λ segment below. subst (λ (it : ℕ). now.state ≡ state_at ran.calls.hist (change_count (calls_in script receipts it))) (only_segment geo segment one below) (sym h.last);
       pairs = λ segment. maps.pairs;
       listed = λ segment below. maps.lists;
       map_is = rw one (maps.lines_are ∙ sym (append-nil (map (map_line 0) maps.pairs)));

@@ -59,7 +59,7 @@ here_is_tier m geo place slot words here fits = record { length_is = fits.are.le
 
 -- a word that is looked at next stood there before
 looked_before : (old now : MemSeen) (geo : Geo) (place slot hole steps : ℕ) (words before : List ℕ) (at word : ℕ) → IsHere old geo place slot → CameByPart old now geo place slot hole steps words before → steps < 2 * geo.chunks
-    → at ≡ slot_at geo place (slot_behind geo slot steps) → FitsNotes now words → Knows now at word → word_behind (ring_of geo) (slot_words geo before place) slot steps ≡ word
+    → at ≡ slot_at geo place (slot_behind (2 * geo.chunks) slot steps) → FitsNotes now words → Knows now at word → word_behind (ring_of geo) (slot_words geo before place) slot steps ≡ word
 looked_before old now geo place slot hole steps words before at word here came below at_is fits knows =
     let tier = here_is_tier old geo place slot before here came.fits in
     let table = tier_is_table geo before place slot tier in
@@ -67,13 +67,13 @@ looked_before old now geo place slot hole steps words before at word here came b
     let now_is : slot_words geo words place ≡ after_stores (slot_words geo before place) came.made =
     ap (λ (ws : List ℕ). slot_words geo ws place) (sym came.leads)
     ∙ slot_words_after geo before place came.made tier.length_is tier.place_inside (shift_within (ring_of geo) (slot_words geo before place) slot hole steps came.made table.ring_is.nonzero came.shift) in
-    sym (so_far.ahead steps (omega arith) below) ∙ (ap (λ (ws : List ℕ). get_or ws (slot_behind geo slot steps) 0) (sym now_is)
-    ∙ (slot_words_at geo words place (slot_behind geo slot steps) (onward_below (ring_of geo) slot steps table.ring_is.nonzero)
+    sym (so_far.ahead steps (omega arith) below) ∙ (ap (λ (ws : List ℕ). get_or ws (slot_behind (2 * geo.chunks) slot steps) 0) (sym now_is)
+    ∙ (slot_words_at geo words place (slot_behind (2 * geo.chunks) slot steps) (onward_below (ring_of geo) slot steps table.ring_is.nonzero)
     ∙ told_word now geo place _ at word at_is knows words fits))
 
 -- a word that stays
 pub shifted_stays : (old now : MemSeen) (geo : Geo) (place slot hole steps at word : ℕ) → IsHere old geo place slot → Shifted old now geo place slot hole steps → steps < 2 * geo.chunks
-    → at ≡ slot_at geo place (slot_behind geo slot steps) → Knows now at word → word ≢ 0 → Stays (ring_of geo) slot hole steps word → Shifted old now geo place slot hole (steps + 1)
+    → at ≡ slot_at geo place (slot_behind (2 * geo.chunks) slot steps) → Knows now at word → word ≢ 0 → Stays (ring_of geo) slot hole steps word → Shifted old now geo place slot hole (steps + 1)
 shifted_stays old now geo place slot hole steps at word here so_far below at_is knows nonzero stay = record {
   kept = so_far.kept;
   noted = so_far.noted;
@@ -98,24 +98,24 @@ allowed_as s t p q o o' ws ws' at at' w w' e f g h i j allowed = rw (e, f, g, h,
 
 -- the store of a word that moves is allowed
 pub may_move : (old now : MemSeen) (geo : Geo) (place slot hole steps at left word : ℕ) → IsHere old geo place slot → MayShift old geo place slot → Shifted old now geo place slot hole steps → steps < 2 * geo.chunks
-    → at ≡ slot_at geo place (slot_behind geo slot steps) → left ≡ slot_at geo place (slot_behind geo slot hole) → Knows now at word → word ≢ 0 → (Stays (ring_of geo) slot hole steps word → ⊥) → MayStore now left word
+    → at ≡ slot_at geo place (slot_behind (2 * geo.chunks) slot steps) → left ≡ slot_at geo place (slot_behind (2 * geo.chunks) slot hole) → Knows now at word → word ≢ 0 → (Stays (ring_of geo) slot hole steps word → ⊥) → MayStore now left word
 may_move old now geo place slot hole steps at left word here may so_far below at_is left_is knows nonzero fuse words fits =
     let far = so_far.came words fits in
     let is = looked_before old now geo place slot hole steps words far.0 at word here far.1 below at_is fits knows in
-    allowed_as now.setting old.setting now.plan old.plan (origin now words) (origin old far.0) words (after_stores far.0 (at_slots geo place far.1.made)) left (slot_at geo place (slot_behind geo slot hole)) word (word_behind (ring_of geo) (slot_words geo far.0 place) slot steps)
+    allowed_as now.setting old.setting now.plan old.plan (origin now words) (origin old far.0) words (after_stores far.0 (at_slots geo place far.1.made)) left (slot_at geo place (slot_behind (2 * geo.chunks) slot hole)) word (word_behind (ring_of geo) (slot_words geo far.0 place) slot steps)
     so_far.kept.setting so_far.kept.plan far.1.origin (sym far.1.leads) left_is (sym is)
-    (may far.0 far.1.fits far.1.made (slot_behind geo slot hole) (word_behind (ring_of geo) (slot_words geo far.0 place) slot steps)
+    (may far.0 far.1.fits far.1.made (slot_behind (2 * geo.chunks) slot hole) (word_behind (ring_of geo) (slot_words geo far.0 place) slot steps)
     (moved hole steps far.1.made far.1.shift below (subst (λ (w : ℕ). w ≢ 0) (sym is) nonzero) (subst (λ (w : ℕ). Stays (ring_of geo) slot hole steps w → ⊥) (sym is) fuse)))
 
 -- and so is the last store
 pub may_end : (old now : MemSeen) (geo : Geo) (place slot hole steps at left word : ℕ) → IsHere old geo place slot → MayShift old geo place slot → Shifted old now geo place slot hole steps → steps < 2 * geo.chunks
-    → at ≡ slot_at geo place (slot_behind geo slot steps) → left ≡ slot_at geo place (slot_behind geo slot hole) → Knows now at word → word ≡ 0 → MayStore now left 0
+    → at ≡ slot_at geo place (slot_behind (2 * geo.chunks) slot steps) → left ≡ slot_at geo place (slot_behind (2 * geo.chunks) slot hole) → Knows now at word → word ≡ 0 → MayStore now left 0
 may_end old now geo place slot hole steps at left word here may so_far below at_is left_is knows none words fits =
     let far = so_far.came words fits in
     let is = looked_before old now geo place slot hole steps words far.0 at word here far.1 below at_is fits knows in
-    allowed_as now.setting old.setting now.plan old.plan (origin now words) (origin old far.0) words (after_stores far.0 (at_slots geo place far.1.made)) left (slot_at geo place (slot_behind geo slot hole)) 0 0
+    allowed_as now.setting old.setting now.plan old.plan (origin now words) (origin old far.0) words (after_stores far.0 (at_slots geo place far.1.made)) left (slot_at geo place (slot_behind (2 * geo.chunks) slot hole)) 0 0
     so_far.kept.setting so_far.kept.plan far.1.origin (sym far.1.leads) left_is refl
-    (may far.0 far.1.fits far.1.made (slot_behind geo slot hole) 0 (emptied hole steps far.1.made far.1.shift below (is ∙ none)))
+    (may far.0 far.1.fits far.1.made (slot_behind (2 * geo.chunks) slot hole) 0 (emptied hole steps far.1.made far.1.shift below (is ∙ none)))
 
 -- the store led here
 led_here : (geo : Geo) (before mid words : List ℕ) (place number left word other : ℕ) (made : List (ℕ × ℕ)) → after_stores before (at_slots geo place made) ≡ mid → slice_set mid left word ≡ words
@@ -125,7 +125,7 @@ led_here geo before mid words place number left word other made one two left_is 
 
 -- a word that moves
 pub shifted_moves : (old a b : MemSeen) (geo : Geo) (place slot hole steps at left word : ℕ) → IsHere old geo place slot → Shifted old a geo place slot hole steps → steps < 2 * geo.chunks
-    → at ≡ slot_at geo place (slot_behind geo slot steps) → left ≡ slot_at geo place (slot_behind geo slot hole) → Knows a at word → word ≢ 0 → (Stays (ring_of geo) slot hole steps word → ⊥)
+    → at ≡ slot_at geo place (slot_behind (2 * geo.chunks) slot steps) → left ≡ slot_at geo place (slot_behind (2 * geo.chunks) slot hole) → Knows a at word → word ≢ 0 → (Stays (ring_of geo) slot hole steps word → ⊥)
     → Writes a b ((left, word) ∷ []) → Shifted old b geo place slot steps (steps + 1)
 shifted_moves old a b geo place slot hole steps at left word here so_far below at_is left_is knows nonzero fuse writes = record {
   kept = keeps_transitive old a b so_far.kept writes.kept;
@@ -138,8 +138,8 @@ shifted_moves old a b geo place slot hole steps at left word here so_far below a
         record {
           fits = far.1.fits;
           origin = mid.1.origin ∙ far.1.origin;
-          made = far.1.made ++ (slot_behind geo slot hole, word_behind (ring_of geo) (slot_words geo far.0 place) slot steps) ∷ [];
-          leads = led_here geo far.0 mid.0 words place (slot_behind geo slot hole) left word (word_behind (ring_of geo) (slot_words geo far.0 place) slot steps) far.1.made far.1.leads mid.1.leads left_is is;
+          made = far.1.made ++ (slot_behind (2 * geo.chunks) slot hole, word_behind (ring_of geo) (slot_words geo far.0 place) slot steps) ∷ [];
+          leads = led_here geo far.0 mid.0 words place (slot_behind (2 * geo.chunks) slot hole) left word (word_behind (ring_of geo) (slot_words geo far.0 place) slot steps) far.1.made far.1.leads mid.1.leads left_is is;
           shift = moves hole steps far.1.made far.1.shift below (subst (λ (w : ℕ). w ≢ 0) (sym is) nonzero) (subst (λ (w : ℕ). Stays (ring_of geo) slot hole steps w → ⊥) (sym is) fuse);
         },
       );
@@ -147,7 +147,7 @@ shifted_moves old a b geo place slot hole steps at left word here so_far below a
 
 -- the last store
 pub removes_end : (old a b : MemSeen) (geo : Geo) (place slot hole steps at left word : ℕ) → IsHere old geo place slot → Shifted old a geo place slot hole steps → steps < 2 * geo.chunks
-    → at ≡ slot_at geo place (slot_behind geo slot steps) → left ≡ slot_at geo place (slot_behind geo slot hole) → Knows a at word → word ≡ 0 → Writes a b ((left, 0) ∷ []) → Removes old b geo place slot
+    → at ≡ slot_at geo place (slot_behind (2 * geo.chunks) slot steps) → left ≡ slot_at geo place (slot_behind (2 * geo.chunks) slot hole) → Knows a at word → word ≡ 0 → Writes a b ((left, 0) ∷ []) → Removes old b geo place slot
 removes_end old a b geo place slot hole steps at left word here so_far below at_is left_is knows none writes = record {
   kept = keeps_transitive old a b so_far.kept writes.kept;
   noted = λ k h. writes.noted k (so_far.noted k h);
@@ -155,20 +155,20 @@ removes_end old a b geo place slot hole steps at left word here so_far below at_
       let mid = writes.came words fits in
       let far = so_far.came mid.0 mid.1.fits in
       let is = looked_before old a geo place slot hole steps mid.0 far.0 at word here far.1 below at_is mid.1.fits knows in
-      let stores : List (ℕ × ℕ) = far.1.made ++ (slot_behind geo slot hole, 0) ∷ [] in
-      let leads : after_stores far.0 (at_slots geo place (far.1.made ++ (slot_behind geo slot hole, 0) ∷ [])) ≡ words =
-      led_here geo far.0 mid.0 words place (slot_behind geo slot hole) left 0 0 far.1.made far.1.leads mid.1.leads left_is refl in
-      let whole : IsShift (ring_of geo) (slot_words geo far.0 place) slot (far.1.made ++ (slot_behind geo slot hole, 0) ∷ []) =
+      let stores : List (ℕ × ℕ) = far.1.made ++ (slot_behind (2 * geo.chunks) slot hole, 0) ∷ [] in
+      let leads : after_stores far.0 (at_slots geo place (far.1.made ++ (slot_behind (2 * geo.chunks) slot hole, 0) ∷ [])) ≡ words =
+      led_here geo far.0 mid.0 words place (slot_behind (2 * geo.chunks) slot hole) left 0 0 far.1.made far.1.leads mid.1.leads left_is refl in
+      let whole : IsShift (ring_of geo) (slot_words geo far.0 place) slot (far.1.made ++ (slot_behind (2 * geo.chunks) slot hole, 0) ∷ []) =
       record { hole = hole; steps = steps; made = far.1.made; shift = far.1.shift; within = below; empty = is ∙ none; stores_are = refl } in (
         far.0,
         record {
           fits = far.1.fits;
           origin = mid.1.origin ∙ far.1.origin;
-          stores = far.1.made ++ (slot_behind geo slot hole, 0) ∷ [];
+          stores = far.1.made ++ (slot_behind (2 * geo.chunks) slot hole, 0) ∷ [];
           leads = leads;
           whole = λ can. whole;
           lost = λ can. subst (λ (ws : List ℕ). LostSlot geo far.0 ws place slot) leads
-              (lost_slot geo far.0 place slot (far.1.made ++ (slot_behind geo slot hole, 0) ∷ []) (here_is_tier old geo place slot far.0 here far.1.fits) can.removed can.law whole);
+              (lost_slot geo far.0 place slot (far.1.made ++ (slot_behind (2 * geo.chunks) slot hole, 0) ∷ []) (here_is_tier old geo place slot far.0 here far.1.fits) can.removed can.law whole);
         },
       );
 }
@@ -205,19 +205,19 @@ dead_shifted (Ok x) old now geo place slot hole steps so_far = tt
 dead_shifted (Err e) old now geo place slot hole steps so_far = (hole, steps, so_far)
 
 -- the slot at a number of steps, by the code's mask
-pub at_behind : (geo : Geo) (slots slot steps : ℕ) → slots ≡ 2 * geo.chunks → bit_and (slot + steps) (slots - 1) ≡ slot_behind geo slot steps
+pub at_behind : (geo : Geo) (slots slot steps : ℕ) → slots ≡ 2 * geo.chunks → bit_and (slot + steps) (slots - 1) ≡ slot_behind (2 * geo.chunks) slot steps
 at_behind geo slots slot steps slots_is = rw slots_is (mask_behind geo slot steps)
 
 -- the code's test, by its mask
-way_test : (geo : Geo) (slots slot steps at home word : ℕ) → slots ≡ 2 * geo.chunks → at ≡ slot_behind geo slot steps → home ≡ home_in geo (word / 2 ^ 32)
-    → bit_and (at + slots - home) (slots - 1) ≡ steps_between geo (home_in geo (word / 2 ^ 32)) (slot_behind geo slot steps)
-way_test geo slots slot steps at home word slots_is at_is home_is = rw (slots_is, at_is, home_is) (mask_between geo (home_in geo (word / 2 ^ 32)) (slot_behind geo slot steps))
+way_test : (geo : Geo) (slots slot steps at home word : ℕ) → slots ≡ 2 * geo.chunks → at ≡ slot_behind (2 * geo.chunks) slot steps → home ≡ home_in geo (word / 2 ^ 32)
+    → bit_and (at + slots - home) (slots - 1) ≡ steps_between (2 * geo.chunks) (home_in geo (word / 2 ^ 32)) (slot_behind (2 * geo.chunks) slot steps)
+way_test geo slots slot steps at home word slots_is at_is home_is = rw (slots_is, at_is, home_is) (mask_between geo (home_in geo (word / 2 ^ 32)) (slot_behind (2 * geo.chunks) slot steps))
 
-pub goes_by : (geo : Geo) (slots slot hole steps at home word : ℕ) → slots ≡ 2 * geo.chunks → at ≡ slot_behind geo slot steps → home ≡ home_in geo (word / 2 ^ 32)
+pub goes_by : (geo : Geo) (slots slot hole steps at home word : ℕ) → slots ≡ 2 * geo.chunks → at ≡ slot_behind (2 * geo.chunks) slot steps → home ≡ home_in geo (word / 2 ^ 32)
     → steps ≤ bit_and (at + slots - home) (slots - 1) + hole → Stays (ring_of geo) slot hole steps word → ⊥
 goes_by geo slots slot hole steps at home word slots_is at_is home_is far stay = omega (arith, way_test geo slots slot steps at home word slots_is at_is home_is, far, stay)
 
-pub stays_by : (geo : Geo) (slots slot hole steps at home word : ℕ) → slots ≡ 2 * geo.chunks → at ≡ slot_behind geo slot steps → home ≡ home_in geo (word / 2 ^ 32)
+pub stays_by : (geo : Geo) (slots slot hole steps at home word : ℕ) → slots ≡ 2 * geo.chunks → at ≡ slot_behind (2 * geo.chunks) slot steps → home ≡ home_in geo (word / 2 ^ 32)
     → bit_and (at + slots - home) (slots - 1) + hole < steps → Stays (ring_of geo) slot hole steps word
 stays_by geo slots slot hole steps at home word slots_is at_is home_is near = omega (arith, way_test geo slots slot steps at home word slots_is at_is home_is, near)
 

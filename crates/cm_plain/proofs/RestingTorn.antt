@@ -16,7 +16,7 @@ use Rattle.cm_plain.specs.Rooms.{room_for, spot_in}
 use Rattle.cm_plain.specs.Changes.{Change, after, change_of, entries_after, entry_at, placed_value, run_at, run_of, with_entry, without}
 use Rattle.cm_plain.specs.Steps.{Plans}
 use Rattle.cm_plain.specs.Slots.{Slot, slot_for, slot_in}
-use Rattle.cm_plain.specs.Readings.{Stands, bytes_at, checksum, padded, head_of, key_bytes, key_len, lengths_fit, reading_at, value_bytes, value_len}
+use Rattle.cm_plain.specs.Readings.{Stands, bytes_at, checksum, entry_checksum, padded, head_of, key_bytes, key_len, lengths_fit, reading_at, value_bytes, value_len}
 use Rattle.cm_geo.specs.Addresses.{chunk_at, words_in_segment}
 use Rattle.cm_geo.proofs.Ranges.{chunk_words_range}
 use Rattle.std.proofs.Math.Nat.{div-add-mod, mod-lt}
@@ -192,7 +192,7 @@ words_within words size nonzero =
 
 -- an entry that stands has its first word, its key's words and its checksum
 stands_between : (geo : Geo) (words : List ℕ) (old new : Placed) → length words ≡ words_in_segment geo → old.place < geo.tiers → Stands geo words old → IsBetween geo words old new
-unfolding reading_at
+unfolding reading_at entry_checksum
 stands_between geo words old new length_is low stands =
     let at : ℕ = chunk_at geo old.place old.chunk in
     let head : ℕ = get_or words at 0 in

@@ -16,7 +16,7 @@ use Rattle.cm_plain.specs.States.{HasRun, IsPlaced, IsState, State, chunks_of, v
 use Rattle.cm_plain.specs.Changes.{Change, after, entry_at}
 use Rattle.cm_plain.specs.Steps.{Plans}
 use Rattle.cm_plain.specs.Slots.{slot_for, word_at}
-use Rattle.cm_plain.specs.Readings.{HasKeyWords, Stands, head_of, wrong_checksum, wrong_padding}
+use Rattle.cm_plain.specs.Readings.{HasKeyWords, Stands, entry_checksum, head_of, wrong_checksum, wrong_padding}
 use Rattle.cm_plain.specs.FoundChains.{chain_of}
 use Rattle.cm_plain.specs.Torn.{BeginsAt, IsBetween, Torn}
 use Rattle.cm_plain.proofs.Apart.{chunks_some, shorter}
@@ -24,7 +24,7 @@ use Rattle.cm_plain.proofs.OneState.{In, in_from, in_has, in_to}
 use Rattle.cm_recover.specs.declared.cause.Cause.TheVariants as cause
 use Rattle.cm_recover.specs.Occupied.{OccupiedSlot}
 use Rattle.cm_recover.specs.Judgements.{judgement}
-use Rattle.cm_recover.specs.Outcomes.{IsChangeOutcome, entry_checksum}
+use Rattle.cm_recover.specs.Outcomes.{IsChangeOutcome}
 use Rattle.cm_recover.proofs.InPlaceWords.{bad_filling, bad_sum, good, reads_key}
 use Rattle.cm_recover.proofs.Judging.{by_reading}
 use Rattle.cm_recover.proofs.Keeping.{IsJudged}

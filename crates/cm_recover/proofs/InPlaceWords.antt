@@ -11,10 +11,9 @@ use Rattle.cm_geo.specs.Need.{Fits, need, parts_for}
 use Rattle.cm_geo.proofs.AddressOrder.{run_in_range}
 use Rattle.cm_geo.proofs.Ranges.{chunk_words_range}
 use Rattle.cm_plain.specs.Slots.{word_at}
-use Rattle.cm_plain.specs.Readings.{HasKeyWords, bytes_at, checksum, entry, padded, head_of, is_padded, key_bytes, key_len, lengths_fit, reading_at, reading_of, value_bytes, value_len, wrong_checksum, wrong_padding}
+use Rattle.cm_plain.specs.Readings.{HasKeyWords, bytes_at, checksum, entry, entry_checksum, padded, head_of, is_padded, key_bytes, key_len, lengths_fit, reading_at, reading_of, value_bytes, value_len, wrong_checksum, wrong_padding}
 use Rattle.cm_plain.proofs.Padding.{bytes_len, padded_is}
 use Rattle.cm_plain.proofs.RestingTorn.{words_within}
-use Rattle.cm_recover.specs.Outcomes.{entry_checksum}
 
 -- what the first word tells
 record TellsLengths (head : ℕ) (key value : List ℕ) : Type 0 where
@@ -91,6 +90,7 @@ good_there : (geo : Geo) (words : List ℕ) (place chunk head : ℕ) (key value 
     → key_found ≡ padded key → length value_found ≡ 8 * parts_for 8 (value_len head) → is_padded (value_len head) value_found ≡ true
     → reading_at geo words place chunk ≡ entry (record { key = take (key_len head) key_found; value = take (value_len head) value_found })
     → checksum head key_found value_found ≡ word_at words (chunk_at geo place chunk + 1) → ReadsKey geo words place chunk key value
+unfolding entry_checksum
 good_there geo words place chunk head key value key_found value_found tells head_is key_words size value_filled reads sum_is =
     let it : List ℕ = take (value_len head) value_found in
     let key_is : take (key_len head) key_found ≡ key = rw (key_words, tells.key_is) (take-append_seam key (replicate (8 * parts_for 8 (length key) - length key) 0)) in
