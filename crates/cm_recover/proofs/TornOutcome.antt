@@ -14,9 +14,11 @@ use Rattle.cm_plain.specs.FoundChains.{KeepsAllowance, chain_of}
 use Rattle.cm_plain.specs.Torn.{IsPointedInChain, Torn}
 use Rattle.cm_plain.proofs.Apart.{Rising}
 use Rattle.cm_plain.proofs.Each.{all_from_pairs, each_weaker}
-use Rattle.cm_plain.proofs.States.{Differs}
-use Rattle.cm_plain.proofs.OneState.{In, in_from, in_has, in_to}
-use Rattle.cm_plain.proofs.RestingTorn.{found_is}
+use Rattle.cm_plain.proofs.States.{Differs, each_differs}
+use Rattle.cm_plain.proofs.EntrySets.{found_is, found_none, found_there}
+use Rattle.cm_plain.proofs.ListElements.{In, all_in, in_from, in_has, in_left, in_to}
+use Rattle.cm_plain.proofs.Planned.{begins_or_not, old_at}
+use Rattle.cm_plain.proofs.StatePairs.{placed_in, same_in}
 use Rattle.cm_recover.specs.Occupied.{OccupiedSlot, occupied_slots}
 use Rattle.cm_recover.specs.Allowed.{allowed_places}
 use Rattle.cm_recover.specs.Judgements.{judgement}
@@ -25,11 +27,8 @@ use Rattle.cm_recover.specs.Outcomes.{IsChangeOutcome, Outcome}
 use Rattle.cm_recover.specs.Laws.{IsTorn, IsCauseOfTorn, TornEnds}
 use Rattle.cm_recover.proofs.Allowing.{all_allowed}
 use Rattle.cm_recover.proofs.TornSlots.{ReadsIts, by_kind, judged, new_judged, old_judged, others_judged}
-use Rattle.cm_recover.proofs.ListElements.{all_in, in_left}
 use Rattle.cm_recover.proofs.Keeping.{HasKey, IsKeeping, keeps}
-use Rattle.cm_recover.proofs.Planned.{begins_or_not, found_none, found_there, old_at}
 use Rattle.cm_recover.proofs.Roles.{IsIts, IsOf, IsTheirs, MayBeKept, judges, value_is}
-use Rattle.cm_recover.proofs.StatePairs.{differs_in, placed_in, same_in}
 use Rattle.cm_recover.proofs.Walking.{StandsIn, occupied_from, occupied_to}
 
 -- what is kept of torn words, where the allowance covers all their tiers
@@ -104,7 +103,7 @@ their_kept geo segment words state op change kept placed is_torn whole i ne =
     (record { placed = placed; is_other = record { there = there; other = ne }; place_is = refl; slot_is = refl }) in
     let has : HasKey kept placed.key = whole.has at placed (occupied_to geo words placed.place point.0 (slot_for geo placed.key placed.chunk) chained point.1.inside point.1.slot_is) of in
     let may = may_of geo segment words state change kept has.placed whole has.is_in in
-    let same : has.placed ≡ placed = same_in state.entries has.placed placed (differs_in geo segment state is_torn.plans.is_state) (their_role geo state change has.placed may.role (λ e. ne (sym has.key_is ∙ e))) i has.key_is in
+    let same : has.placed ≡ placed = same_in state.entries has.placed placed (each_differs is_torn.plans.is_state) (their_role geo state change has.placed may.role (λ e. ne (sym has.key_is ∙ e))) i has.key_is in
     subst (λ (p : Placed). In p kept.entries) same has.is_in
 
 -- each other key has what it had
