@@ -17,7 +17,7 @@ use Rattle.cm_plain.proofs.States.{each_differs, each_rising, same_state}
 use Rattle.cm_recover.specs.Occupied.{OccupiedSlot, occupied_slots}
 use Rattle.cm_recover.specs.Judgements.{judgement}
 use Rattle.cm_recover.specs.KeptSlots.{KeptEntries, kept_in, kept_of, kept_state}
-use Rattle.cm_recover.specs.Laws.{LawfulStays}
+use Rattle.cm_recover.specs.Laws.{KeepsStates}
 use Rattle.cm_recover.proofs.Allowing.{all_allowed}
 use Rattle.cm_recover.proofs.Walking.{IsElsewhere, StandsIn, occupied_from, occupied_once, occupied_to}
 use Rattle.cm_recover.proofs.Keeping.{HasKey, IsJudge, IsKeeping, keeps}
@@ -105,9 +105,9 @@ keeps_all geo segment words state tells =
         subst (λ (p : Placed). In p later.entries) same has.is_in
 
 -- the law of words that stand for a state
-pub lawful_stays : (geo : Geo) (words_of : ℕ → List ℕ) → KeepsAllowance geo words_of → LawfulStays geo words_of
+pub keeps_states : (geo : Geo) (words_of : ℕ → List ℕ) → KeepsAllowance geo words_of → KeepsStates geo words_of
 unfolding kept_in
-lawful_stays geo words_of keeps segment state below lawful =
+keeps_states geo words_of keeps segment state below lawful =
     let words : List ℕ = words_of segment in
     let all = keeps_all geo segment words state lawful.tells in
     let allowed_is = all_allowed geo words_of segment keeps below in

@@ -24,7 +24,7 @@ use Rattle.cm_recover.specs.Allowed.{allowed_places}
 use Rattle.cm_recover.specs.Judgements.{judgement}
 use Rattle.cm_recover.specs.KeptSlots.{KeptEntries, kept_in, kept_of}
 use Rattle.cm_recover.specs.Outcomes.{IsChangeOutcome, Outcome}
-use Rattle.cm_recover.specs.Laws.{IsTorn, IsCauseOfTorn, TornEnds}
+use Rattle.cm_recover.specs.Laws.{IsTorn, IsCauseOfTorn, KeepsOutcomes}
 use Rattle.cm_recover.proofs.Allowing.{all_allowed}
 use Rattle.cm_recover.proofs.TornSlots.{ReadsIts, by_kind, judged, new_judged, old_judged, others_judged}
 use Rattle.cm_recover.proofs.Keeping.{HasKey, IsKeeping, keeps}
@@ -198,14 +198,14 @@ its_outcome geo segment words state op change kept is_torn whole = by (entry_of 
         subst (λ (v : Option (List ℕ)). IsChangeOutcome geo state change v) (sym (ap value_in e)) (its_role placed may.role there.key_is)
 
 -- what is kept where the allowance covers the tiers at these places
-record EndsWell (geo : Geo) (segment : ℕ) (words : List ℕ) (state : State) (change : Change) (places : List ℕ) (kept : KeptEntries) : Type 0 where
+record KeepsOutcomeAt (geo : Geo) (segment : ℕ) (words : List ℕ) (state : State) (change : Change) (places : List ℕ) (kept : KeptEntries) : Type 0 where
   is_state : IsState geo segment (record { chain = places; entries = kept.entries })
   outcome : Outcome geo state change (λ key. value_of key (record { chain = places; entries = kept.entries }))
   drops : All IsCauseOfTorn kept.drops
 
-ends_well : (geo : Geo) (segment : ℕ) (words : List ℕ) (state : State) (op : Op) (change : Change) (kept : KeptEntries) → IsTorn geo segment words state op change → IsWhole geo segment words state change kept
-    → EndsWell geo segment words state change (chain_of geo words).places kept
-ends_well geo segment words state op change kept is_torn whole = record {
+outcome_at : (geo : Geo) (segment : ℕ) (words : List ℕ) (state : State) (op : Op) (change : Change) (kept : KeptEntries) → IsTorn geo segment words state op change → IsWhole geo segment words state change kept
+    → KeepsOutcomeAt geo segment words state change (chain_of geo words).places kept
+outcome_at geo segment words state op change kept is_torn whole = record {
   is_state = is_state_of geo segment words state op change kept is_torn whole;
   outcome = record {
     others = λ key ne. others_same geo segment words state op change kept key is_torn whole ne;
@@ -215,11 +215,11 @@ ends_well geo segment words state op change kept is_torn whole = record {
 }
 
 -- the law of torn words
-pub torn_ends : (geo : Geo) (words_of : ℕ → List ℕ) → KeepsAllowance geo words_of → TornEnds geo words_of
+pub keeps_outcomes : (geo : Geo) (words_of : ℕ → List ℕ) → KeepsAllowance geo words_of → KeepsOutcomes geo words_of
 unfolding kept_in
-torn_ends geo words_of keeps segment state op change below is_torn =
+keeps_outcomes geo words_of keeps segment state op change below is_torn =
     let words : List ℕ = words_of segment in
-    let whole = ends_well geo segment words state op change (kept_whole geo segment words) is_torn (keeps_whole geo segment words state op change is_torn) in
-    let all : EndsWell geo segment words state change (allowed_places geo words_of segment) (kept_in geo words_of segment) =
-    subst (λ (places : List ℕ). EndsWell geo segment words state change places (kept_of geo segment words places (record { entries = []; drops = [] }) (occupied_slots geo words))) (sym (all_allowed geo words_of segment keeps below)) whole in
+    let whole = outcome_at geo segment words state op change (kept_whole geo segment words) is_torn (keeps_whole geo segment words state op change is_torn) in
+    let all : KeepsOutcomeAt geo segment words state change (allowed_places geo words_of segment) (kept_in geo words_of segment) =
+    subst (λ (places : List ℕ). KeepsOutcomeAt geo segment words state change places (kept_of geo segment words places (record { entries = []; drops = [] }) (occupied_slots geo words))) (sym (all_allowed geo words_of segment keeps below)) whole in
     record { is_state = all.is_state; outcome = all.outcome; drops = all.drops }
