@@ -12,16 +12,16 @@ use Rattle.cm_plain.specs.declared.op.Op.{Op}
 use Rattle.cm_plain.specs.declared.op.Op.TheVariants.{Put, Get, PutIfAbsent, Replace, ReplaceIf, Remove, RemoveIf, Count, List as ListAll, Sweep}
 use Rattle.cm_plain.specs.declared.receipt.MapLine.{MapLine}
 use Rattle.cm_plain.specs.declared.receipt.Receipt.{Receipt}
-use Rattle.cm_plain.specs.History.{Call, Legal}
-use Rattle.cm_plain.specs.Limits.{KeepsLimits, segment_of}
+use Rattle.cm_plain.specs.History.{Call, Legal, change_count}
+use Rattle.cm_plain.specs.Limits.{segment_of}
 use Rattle.cm_plain.specs.Segments.{Segment}
 use Rattle.cm_plain.specs.States.{one_tier}
 use Rattle.cm_script.specs.declared.line.Line.{Line}
 use Rattle.cm_script.specs.Explained.{Answers, AnswersAll, AnswersBy, AnswersOnce, Explained, IsOf, call_at, calls_in, is_sweep, map_line}
-use Rattle.cm_script.specs.Scripts.{IsFor, is_built, is_built_op}
+use Rattle.cm_script.specs.Scripts.{IsFor, IsLineFor, is_built, is_built_op}
 use Rattle.chronmap.specs.RunRecords.{MapsState, Receives}
 use Rattle.chronmap.proofs.Answering.{all_of_first, answers_more, calls_more, numbered_more}
-use Rattle.chronmap.proofs.Histories.{More, begins, count, is_legal, more, state_at}
+use Rattle.chronmap.proofs.Histories.{More, begins, is_legal, more, state_at}
 
 -- the remainder by one
 rest_of_one : (n one : ℕ) → one ≡ 1 → n % one ≡ 0
@@ -85,9 +85,9 @@ ran_none geo script receipts now none is = record {
   });
 }
 
--- the line at an index is built, and keeps the limits
-pub line_for : (geo : Geo) (script : List Line) (at : ℕ) (line : Line) → IsFor geo script → slice_get script at ≡ Some line → (is_built line ≡ true) × KeepsLimits geo line.op
-line_for geo script at line kept e = all_at (λ it. (is_built it ≡ true) × KeepsLimits geo it.op) script at line kept e
+-- the line at an index is one that was read for the geometry
+pub line_for : (geo : Geo) (script : List Line) (at : ℕ) (line : Line) → IsFor geo script → slice_get script at ≡ Some line → IsLineFor geo line
+line_for geo script at line kept e = all_at (IsLineFor geo) script at line kept e
 
 -- one more record
 pub ran_more : (geo : Geo) (script : List Line) (at : ℕ) (receipts : List Receipt) (line : Line) (old new : Segment) (receipt : Receipt) → geo.segments ≡ 1
@@ -123,15 +123,15 @@ pub explains : (geo : Geo) (script : List Line) (at : ℕ) (receipts : List Rece
 explains geo script at receipts now lines extra one kept whole ran maps extra_is =
     let calls = calls_in script receipts 0 in
     let h = ran.calls.history in
-    let first = all_of_first script (All-weaker (λ line. (is_built line ≡ true) × KeepsLimits geo line.op) (λ line. line.caller ≡ 0) (λ line k. (is_plain line k.0).caller_is) script kept) in
+    let first = all_of_first script (All-weaker (IsLineFor geo) (λ line. line.caller ≡ 0) (λ line k. (is_plain line k.is_done).caller_is) script kept) in
     let all : enumerate_from 1 (take at script) ≡ enumerate_from 1 script = ap (enumerate_from 1) (take_all at script whole) in
     record {
       answered = rw first (rw all at ran.answered);
       states = λ segment. state_at ran.calls.hist;
-      legal = λ segment below. subst (λ (it : ℕ). Legal geo it one_tier 0 (state_at ran.calls.hist) (calls_in script receipts it)) (only_segment geo segment one below)
+      legal = λ segment below. subst (λ (it : ℕ). Legal geo it one_tier 0 (state_at ran.calls.hist) (change_count (calls_in script receipts it)) (calls_in script receipts it)) (only_segment geo segment one below)
           (is_legal geo calls ran.calls.hist now h);
       last = λ segment. now.state;
-      last_is = λ segment below. subst (λ (it : ℕ). now.state ≡ state_at ran.calls.hist (count (calls_in script receipts it))) (only_segment geo segment one below) (sym h.last);
+      last_is = λ segment below. subst (λ (it : ℕ). now.state ≡ state_at ran.calls.hist (change_count (calls_in script receipts it))) (only_segment geo segment one below) (sym h.last);
       pairs = λ segment. maps.pairs;
       listed = λ segment below. maps.lists;
       map_is = rw one (maps.lines_are ∙ sym (append-nil (map (map_line 0) maps.pairs)));

@@ -14,17 +14,13 @@ use Rattle.cm_plain.specs.declared.reply.Reply.{Reply}
 use Rattle.cm_plain.specs.declared.reply.Reply.TheVariants as reply
 use Rattle.cm_plain.specs.States.{State, one_tier}
 use Rattle.cm_plain.specs.Steps.{Step, is_change}
-use Rattle.cm_plain.specs.History.{Call, IsIn, KeepsOrder, Legal, changes, granted}
+use Rattle.cm_plain.specs.History.{Call, IsIn, KeepsOrder, Legal, change_count, changes, granted}
 use Rattle.cm_plain.specs.Segments.{Answered, Segment}
 use Rattle.chronmap.proofs.Regrant.{as_granted, unchanged_state}
 
 -- the state after so many changes
 abbrev pub state_at : List State → ℕ → State
 state_at hist i = get_or hist i one_tier
-
--- how many calls changed the segment
-abbrev pub count : List Call → ℕ
-count calls = length (filter changes calls)
 
 -- a call in a history that is written down state after state
 abbrev pub Stands : Geo → List State → Bool → Call → Type 0
@@ -37,11 +33,11 @@ Stands geo hist false call =
 pub record History (geo : Geo) (calls : List Call) (hist : List State) (now : Segment) : Type 0 where
   pub geo_is : now.geo ≡ geo
   pub segment_is : now.segment ≡ 0
-  pub long : length hist ≡ count calls + 1
+  pub long : length hist ≡ change_count calls + 1
   pub first : state_at hist 0 ≡ one_tier
-  pub last : state_at hist (count calls) ≡ now.state
-  pub number_is : now.number ≡ count calls
-  pub numbers : map (λ call. call.receipt.number) (filter changes calls) ≡ range_with_len (0 + 1) (count calls)
+  pub last : state_at hist (change_count calls) ≡ now.state
+  pub number_is : now.number ≡ change_count calls
+  pub numbers : map (λ call. call.receipt.number) (filter changes calls) ≡ range_with_len (0 + 1) (change_count calls)
   pub steps : All (λ call. Stands geo hist (changes call) call) calls
   pub below : All (λ call. call.receipt.number ≤ now.number) calls
   pub in_order : AllPairs KeepsOrder calls
@@ -118,9 +114,9 @@ number_of call = call.receipt.number
 pub more_change : (geo : Geo) (calls : List Call) (hist : List State) (old new : Segment) (call : Call) → History geo calls hist old
     → Answered old new false call.op call.receipt.reply → call.receipt.number ≡ new.number → changes call ≡ true → History geo (calls ++ call ∷ []) (hist ++ new.state ∷ []) new
 more_change geo calls hist old new call h answered number_is changed =
-    let n = count calls in
+    let n = change_count calls in
     let kept = copied_change calls call changed in
-    let counted : count (calls ++ call ∷ []) ≡ n + 1 = ap length kept ∙ length_push (filter changes calls) call in
+    let counted : change_count (calls ++ call ∷ []) ≡ n + 1 = ap length kept ∙ length_push (filter changes calls) call in
     let raised : new.number ≡ n + 1 = (rw changed at answered.number_is) ∙ ap (λ (k : ℕ). k + 1) h.number_is in
     let at_last : state_at (hist ++ new.state ∷ []) (n + 1) ≡ new.state = get_or_push hist new.state one_tier (n + 1) h.long in
     let at_prior : state_at (hist ++ new.state ∷ []) n ≡ old.state = get_or_append_left hist (new.state ∷ []) one_tier n (omega (arith, h.long)) ∙ h.last in
@@ -155,9 +151,9 @@ more_change geo calls hist old new call h answered number_is changed =
 pub more_other : (geo : Geo) (calls : List Call) (hist : List State) (old new : Segment) (call : Call) → History geo calls hist old
     → Answered old new false call.op call.receipt.reply → call.receipt.number ≡ new.number → changes call ≡ false → History geo (calls ++ call ∷ []) hist new
 more_other geo calls hist old new call h answered number_is still =
-    let n = count calls in
+    let n = change_count calls in
     let kept = kept_other calls call still in
-    let counted : count (calls ++ call ∷ []) ≡ n = ap length kept in
+    let counted : change_count (calls ++ call ∷ []) ≡ n = ap length kept in
     let same : new.number ≡ n = (rw still at answered.number_is) ∙ h.number_is in
     let state_same : new.state ≡ old.state = unchanged_state old.geo old.segment old.state old.number false call.op new.state call.receipt.reply still answered.step in
     let at_last : state_at hist n ≡ old.state = h.last in
@@ -194,10 +190,10 @@ is_in geo hist most true call long h = (h.0, h.2, h.3)
 is_in geo hist most false call long h = (h.0, omega (arith, h.1), h.2, h.3)
 
 -- what was answered is a legal history
-pub is_legal : (geo : Geo) (calls : List Call) (hist : List State) (now : Segment) → History geo calls hist now → Legal geo 0 one_tier 0 (state_at hist) calls
+pub is_legal : (geo : Geo) (calls : List Call) (hist : List State) (now : Segment) → History geo calls hist now → Legal geo 0 one_tier 0 (state_at hist) (change_count calls) calls
 is_legal geo calls hist now h = record {
-  numbers = subst (λ (ns : List ℕ). IsPermutation (range_with_len (0 + 1) (count calls)) ns) (sym h.numbers) (IsPermutation-refl (range_with_len (0 + 1) (count calls)));
+  numbers = subst (λ (ns : List ℕ). IsPermutation (range_with_len (0 + 1) (change_count calls)) ns) (sym h.numbers) (IsPermutation-refl (range_with_len (0 + 1) (change_count calls)));
   begins = h.first;
-  steps = All-weaker (λ it. Stands geo hist (changes it) it) (λ it. IsIn geo 0 0 (state_at hist) (count calls) (changes it) it) (λ it s. is_in geo hist (count calls) (changes it) it h.long s) calls h.steps;
+  steps = All-weaker (λ it. Stands geo hist (changes it) it) (λ it. IsIn geo 0 0 (state_at hist) (change_count calls) (changes it) it) (λ it s. is_in geo hist (change_count calls) (changes it) it h.long s) calls h.steps;
   in_order = h.in_order;
 }

@@ -8,6 +8,7 @@ ghost use Rattle.chronmap.specs.Stops.{CausesRead};
 ghost use Rattle.chronmap.specs.Told.{TookAll};
 
 use cm_plain::{Failed, NoMemory};
+use cm_script::MAX_SCRIPT_BYTES;
 use std::alloc::{AllocError, Global};
 
 /// Where bytes come from.
@@ -56,7 +57,7 @@ impl From<AllocError> for ReadStop {
 }
 
 /// The most bytes that are taken: one more than a script may have.
-pub const MOST_TAKEN: usize = 16_777_217;
+pub const MOST_TAKEN: usize = MAX_SCRIPT_BYTES + 1;
 
 // The most bytes that are asked for at once.
 const PIECE: usize = 4096;

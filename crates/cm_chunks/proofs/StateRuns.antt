@@ -9,11 +9,10 @@ use Rattle.cm_geo.specs.declared.geo.Geo.{Geo}
 use Rattle.cm_plain.specs.declared.placed.Placed.{Placed}
 use Rattle.cm_plain.specs.States.{State, chunks_of}
 use Rattle.cm_plain.specs.Rooms.{is_free, least_free, meets}
-use Rattle.cm_plain.specs.Lawful.{IsTaken}
+use Rattle.cm_plain.specs.Lawful.{BitsRepresent, IsTaken}
 use Rattle.cm_plain.proofs.Apart.{chunks_some}
 use Rattle.cm_plain.proofs.Ranges.{find_here, find_next, find_none}
 use Rattle.cm_chunks.specs.Free.{FindsFit, IsFreeRun}
-use Rattle.cm_chunks.specs.Laws.{BitsRepresent}
 
 -- the test of an entry's run, in numbers
 all_met : (p q a b c d : ℕ) → p ≡ q → a < b → c < d → ((p == q) && (nat_lt a b && nat_lt c d)) ≡ true

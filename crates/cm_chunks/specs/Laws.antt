@@ -1,14 +1,10 @@
 -- What bits tell of a state (own).
-use Rattle.std.specs.Prelude.{ℕ, ◌≡◌, ◌<◌, ◌≤◌, ◌↔◌, true, List, Option}
+use Rattle.std.specs.Prelude.{ℕ, ◌≡◌, ◌≤◌, ◌↔◌, true, List, Option}
 use Rattle.cm_geo.specs.declared.geo.Geo.{Geo}
 use Rattle.cm_plain.specs.States.{State}
 use Rattle.cm_plain.specs.Rooms.{is_free, least_free}
-use Rattle.cm_plain.specs.Lawful.{HasBit, IsTaken}
+use Rattle.cm_plain.specs.Lawful.{BitsRepresent}
 use Rattle.cm_chunks.specs.Free.{FindsFit, IsFreeRun}
-
--- the bits of the tier at a place that are set are those of the chunks in runs
-abbrev pub BitsRepresent : Geo → List ℕ → State → ℕ → Type 0
-BitsRepresent geo words state place = (chunk : ℕ) → chunk < geo.chunks → (HasBit geo words place chunk ↔ IsTaken geo state place chunk)
 
 -- so many chunks are free in the words just where they are in the state
 abbrev pub IsFreeAsState : Type 0

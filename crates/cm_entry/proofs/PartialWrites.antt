@@ -4,12 +4,12 @@ use Rattle.std.proofs.lemmas.Bool.Decides.{eqb_tells}
 use Rattle.cm_geo.specs.declared.geo.Geo.{Geo}
 use Rattle.cm_geo.specs.Addresses.{chunk_at, words_in_segment}
 use Rattle.cm_geo.specs.Need.{parts_for}
-use Rattle.cm_plain.specs.Readings.{bytes_of, head_of}
+use Rattle.cm_plain.specs.Readings.{HasEntry, bytes_of, entry_checksum, head_of}
 use Rattle.cm_plain.specs.Changes.{entry_at}
 use Rattle.cm_plain.specs.Torn.{IsBetween}
 use Rattle.cm_words.specs.Effects.{after_stores}
 use Rattle.cm_entry.specs.Packing.{words_of}
-use Rattle.cm_entry.specs.Writing.{HasEntry, entry_stores, head_stores, replacing_stores, stores_from, entry_checksum, value_stores}
+use Rattle.cm_entry.specs.Writing.{entry_stores, head_stores, replacing_stores, stores_from, value_stores}
 use Rattle.cm_entry.proofs.Packing.{AreBytes, words_len}
 use Rattle.cm_entry.proofs.WritingStores.{after_len, part_same}
 use Rattle.cm_entry.proofs.WritingEntry.{EntryWords, IsRoom, inside_run, stood, value_replaced, words_stand}

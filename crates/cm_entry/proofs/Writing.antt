@@ -8,14 +8,14 @@ use Rattle.cm_geo.specs.Addresses.{chunk_at, words_in_segment}
 use Rattle.cm_geo.specs.Hash.{hash}
 use Rattle.cm_geo.proofs.AddressOrder.{chunks_behind_head}
 use Rattle.cm_geo.specs.Need.{parts_for}
-use Rattle.cm_plain.specs.Readings.{padded, head_of}
+use Rattle.cm_plain.specs.Readings.{HasEntry, entry_checksum, head_of, padded}
 use Rattle.cm_words.specs.Memory.{FitsNotes, MayStore, MemSeen, Setting, origin}
 use Rattle.cm_words.specs.Effects.{AllowsAll, Keeps, MayStoreAll, Reads, Knows, Writes, WritesPrefix, after_stores}
 use Rattle.cm_words.specs.Stores.{MayStoreEach, WritesEach, WritesPrefixEach}
 use Rattle.cm_words.proofs.FittingLists.{after_stores_on, prefix_some, keeps_transitive, may_store_after, writes_append}
 use Rattle.cm_words.proofs.StoreLists.{allows_at, prefix_behind, prefix_each_behind, prefix_first, may_back, may_back_each, may_prefix, may_prefix_each, may_one}
 use Rattle.cm_entry.specs.Packing.{hash_on, part_of, word_of, words_of}
-use Rattle.cm_entry.specs.Writing.{HasEntry, Replaces, entry_stores, head_stores, replacing_stores, stores_from, entry_checksum, value_stores}
+use Rattle.cm_entry.specs.Writing.{Replaces, entry_stores, head_stores, replacing_stores, stores_from, value_stores}
 use Rattle.cm_entry.proofs.Packing.{AreBytes, hash_append, word_in_words, words_len}
 use Rattle.cm_entry.proofs.WritingStores.{stores_more, stores_split}
 use Rattle.cm_entry.proofs.WritingEntry.{IsRoom, entry_stored, inside_run, value_replaced, words_stand}

@@ -9,13 +9,13 @@ use Rattle.cm_geo.specs.Addresses.{chunk_at, words_in_segment}
 use Rattle.cm_geo.specs.Need.{Fits, need, parts_for}
 use Rattle.cm_geo.proofs.AddressOrder.{run_in_range}
 use Rattle.cm_geo.proofs.Ranges.{chunk_words_range}
-use Rattle.cm_plain.specs.Readings.{bytes_at, bytes_of, checksum, entry, padded, head_of, is_padded, key_bytes, key_len, lengths_fit, reading_at, reading_of, value_bytes, value_len}
+use Rattle.cm_plain.proofs.EntryWords.{words_within}
+use Rattle.cm_plain.specs.Readings.{HasEntry, bytes_at, bytes_of, checksum, entry, entry_checksum, head_of, is_padded, key_bytes, key_len, lengths_fit, padded, reading_at, reading_of, value_bytes, value_len}
 use Rattle.cm_plain.proofs.Padding.{IsRead, bytes_len, padded_is, is_read, whole_words}
-use Rattle.cm_plain.proofs.RestingTorn.{words_within}
 use Rattle.cm_words.specs.Effects.{after_stores}
 use Rattle.cm_words.proofs.FittingLists.{after_stores_on}
 use Rattle.cm_entry.specs.Packing.{words_of}
-use Rattle.cm_entry.specs.Writing.{HasEntry, HasKey, entry_stores, head_stores, replacing_stores, stores_from, entry_checksum, value_stores}
+use Rattle.cm_entry.specs.Writing.{HasKey, entry_stores, head_stores, replacing_stores, stores_from, value_stores}
 use Rattle.cm_entry.proofs.Packing.{AreBytes, bytes_of_words, words_len}
 use Rattle.cm_entry.proofs.WritingStores.{after_here, after_len, after_other, part_is, part_same}
 

@@ -1,10 +1,10 @@
 -- The stores of an entry, and what they leave (own).
-use Rattle.std.specs.Prelude.{ℕ, ◌≡◌, ◌+◌, ◌==◌, List, [], ◌∷◌, ◌++◌, length, if◌then◌else◌}
+use Rattle.std.specs.Prelude.{ℕ, ◌+◌, ◌==◌, List, [], ◌∷◌, ◌++◌, length, if◌then◌else◌}
 use Rattle.cm_geo.specs.declared.geo.Geo.{Geo}
 use Rattle.cm_geo.specs.Addresses.{chunk_at}
 use Rattle.cm_geo.specs.Need.{parts_for}
 use Rattle.cm_plain.specs.Slots.{word_at}
-use Rattle.cm_plain.specs.Readings.{checksum, entry, padded, head_of, reading_at}
+use Rattle.cm_plain.specs.Readings.{HasEntry, entry_checksum, head_of}
 use Rattle.cm_words.specs.Memory.{FitsNotes, MemSeen}
 use Rattle.cm_words.specs.Effects.{CameBy, Keeps, StaysNoted}
 use Rattle.cm_entry.specs.Packing.{words_of}
@@ -13,10 +13,6 @@ use Rattle.cm_entry.specs.Packing.{words_of}
 abbrev pub stores_from : ℕ → List ℕ → List (ℕ × ℕ)
 stores_from at [] = []
 stores_from at (word ∷ words) = (at, word) ∷ stores_from (at + 1) words
-
--- the checksum of an entry
-unfoldable pub entry_checksum : List ℕ → List ℕ → ℕ
-entry_checksum key value = checksum (head_of key value) (padded key) (padded value)
 
 -- the stores of a value at the entry that begins here: its words, and then the checksum
 unfoldable pub value_stores : ℕ → List ℕ → List ℕ → List (ℕ × ℕ)
@@ -34,11 +30,7 @@ head_stores at head words = if word_at words at == head then [] else (at, head) 
 unfoldable pub replacing_stores : ℕ → List ℕ → List ℕ → List ℕ → List (ℕ × ℕ)
 replacing_stores at key value words = head_stores at (head_of key value) words ++ value_stores at key value
 
--- an entry of this key and this value stands at a chunk
-abbrev pub HasEntry : Geo → List ℕ → ℕ → ℕ → List ℕ → List ℕ → Type 0
-HasEntry geo words place chunk key value = reading_at geo words place chunk ≡ entry (record { key = key; value = value })
-
--- an entry of this key does
+-- an entry of this key stands at a chunk
 abbrev pub HasKey : Geo → List ℕ → ℕ → ℕ → List ℕ → Type 0
 HasKey geo words place chunk key = (value : List ℕ) × HasEntry geo words place chunk key value
 

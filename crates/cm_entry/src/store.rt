@@ -5,14 +5,14 @@ ghost use Rattle.std.specs.Int.{to_le_bytes, w64};
 ghost use Rattle.cm_geo.specs.Addresses.{chunk_at, words_in_segment};
 ghost use Rattle.cm_geo.specs.Hash.{hash as hash_of};
 ghost use Rattle.cm_geo.specs.Need.{Fits, need, parts_for};
-ghost use Rattle.cm_plain.specs.Readings.{padded, head_of as head_in};
+ghost use Rattle.cm_plain.specs.Readings.{HasEntry, head_of as head_in, padded};
 ghost use Rattle.cm_words.specs.declared.access.Access.TheVariants.{Writable};
 ghost use Rattle.cm_words.specs.Memory.{FitsNotes, MemSeen};
 ghost use Rattle.cm_words.specs.Meters.{ReportsDeath};
 ghost use Rattle.cm_words.specs.Effects.{MayStoreAll, Reads, Writes, WritesPrefix};
 ghost use Rattle.cm_words.specs.Stores.{MayStoreEach, WritesEach, WritesPrefixEach};
 ghost use Rattle.cm_entry.specs.Packing.{hash_on, words_of};
-ghost use Rattle.cm_entry.specs.Writing.{HasEntry, Replaces, entry_stores, head_stores, replacing_stores, stores_from, value_stores};
+ghost use Rattle.cm_entry.specs.Writing.{Replaces, entry_stores, head_stores, replacing_stores, stores_from, value_stores};
 
 use crate::hashing::hash_word;
 use crate::pack::{hash_words, head_of, nth_word, words_for};

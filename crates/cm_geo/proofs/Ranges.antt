@@ -1,9 +1,6 @@
 -- What the limits of a geometry say of its numbers.
-use Rattle.std.proofs.Common.{◌≡◌, ℕ, suc, ◌-◌, ◌*◌, ◌/◌, ◌%◌, ◌^◌, ◌≤◌, IsTrue, arith, bit_and}
+use Rattle.std.proofs.Common.{◌≡◌, ◌*◌, ◌/◌, ◌%◌, ◌^◌, ◌≤◌, arith}
 use Rattle.std.proofs.lemmas.Grind.{common_steps}
-use Rattle.std.proofs.lemmas.Nat.{and_mask}
-use Rattle.std.proofs.Math.Nat.{pow-suc}
-use Rattle.cm_geo.specs.Limits.{is_chunks}
 use Rattle.cm_geo.specs.declared.geo.Geo.{Geo}
 use Rattle.cm_geo.specs.Addresses.{words_in_segment, words_in_map}
 
@@ -31,15 +28,3 @@ chunk_words_range geo = grind (arith, common_steps, geo.chunk_words_fit)
 pub map_limit : (geo : Geo) → words_in_map geo ≤ 2 ^ 22
 unfolding words_in_segment
 map_limit geo = geo.words_fit
-
--- a mask takes the remainder by twice a power of two
-mask_of_power : (n size k : ℕ) → size ≡ 2 ^ k → bit_and n (2 * size - 1) ≡ n % (2 * size)
-mask_of_power n size k is =
-    let twice : 2 * size ≡ 2 ^ suc k = grind (arith, pow-suc 2 k) in
-    rw twice (and_mask n (suc k))
-
--- a mask takes the remainder by twice a number of chunks
-pub mask_of_chunks : (n chunks : ℕ) → IsTrue (is_chunks chunks) → bit_and n (2 * chunks - 1) ≡ n % (2 * chunks)
-mask_of_chunks n chunks fits =
-    let power = mask_of_power n chunks in
-    grind (arith, common_steps, fits, power 6, power 7, power 8, power 9, power 10, power 11, power 12)

@@ -1,6 +1,7 @@
 -- Where the words of a segment stand, counted from its first word (own).
 use Rattle.std.specs.Prelude.{ℕ, ◌+◌, ◌*◌, ◌/◌}
 use Rattle.cm_geo.specs.declared.geo.Geo.{Geo}
+use Rattle.cm_geo.specs.declared.limits.TheConstants.{WORD_BITS}
 use Rattle.cm_geo.specs.Layout.{tier_words, segment_words}
 
 -- the words of one tier
@@ -19,14 +20,14 @@ words_in_map geo = geo.segments * words_in_segment geo
 unfoldable pub tier_at : Geo → ℕ → ℕ
 tier_at geo place = 4 + place * words_in_tier geo
 
--- a word of bits: bit b of word i tells of chunk 64 i + b
+-- a word of bits: the bits of the chunks in their order, WORD_BITS a word
 unfoldable pub bits_at : Geo → ℕ → ℕ → ℕ
 bits_at geo place word = tier_at geo place + 4 + word
 
 -- a slot's word
 unfoldable pub slot_at : Geo → ℕ → ℕ → ℕ
-slot_at geo place slot = tier_at geo place + 4 + geo.chunks / 64 + slot
+slot_at geo place slot = tier_at geo place + 4 + geo.chunks / WORD_BITS + slot
 
 -- the first word of a chunk
 unfoldable pub chunk_at : Geo → ℕ → ℕ → ℕ
-chunk_at geo place chunk = tier_at geo place + 4 + geo.chunks / 64 + 2 * geo.chunks + chunk * geo.chunk_words
+chunk_at geo place chunk = tier_at geo place + 4 + geo.chunks / WORD_BITS + 2 * geo.chunks + chunk * geo.chunk_words

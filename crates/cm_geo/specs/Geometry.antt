@@ -1,6 +1,7 @@
 -- Which five numbers are a geometry (own).
-use Rattle.std.specs.Prelude.{◌≡◌, ℕ, ◌-◌, ◌*◌, ◌^◌, not, nat_lt, if◌then◌else◌, Option, Some, None}
+use Rattle.std.specs.Prelude.{◌≡◌, ℕ, ◌-◌, ◌*◌, not, nat_lt, if◌then◌else◌, Option, Some, None}
 use Rattle.cm_geo.specs.declared.geo.Geo.{Geo}
+use Rattle.cm_geo.specs.declared.limits.TheConstants.{MAX_MAP_WORDS}
 use Rattle.cm_geo.specs.declared.refused.GeoRefused.{GeoRefused}
 use Rattle.cm_geo.specs.declared.refused.GeoRefused.TheVariants.{Segments, Tiers, Chunks, ChunkWords, Allowance, TooManyWords}
 use Rattle.cm_geo.specs.Limits.{is_segments, is_tiers, is_chunks, is_chunk_words}
@@ -14,7 +15,7 @@ refusal segments tiers chunks chunk_words extra =
     else (if not (is_chunks chunks) then Some Chunks
     else (if not (is_chunk_words chunk_words) then Some ChunkWords
     else (if nat_lt (segments * (tiers - 1)) extra then Some Allowance
-    else (if nat_lt (2 ^ 22) (segments * segment_words tiers chunks chunk_words) then Some TooManyWords
+    else (if nat_lt MAX_MAP_WORDS (segments * segment_words tiers chunks chunk_words) then Some TooManyWords
     else None)))))
 
 -- the geometry has these numbers

@@ -1,6 +1,7 @@
 -- How much room an entry takes (own).
 use Rattle.std.specs.Prelude.{ℕ, ◌+◌, ◌-◌, ◌/◌, ◌≤◌}
 use Rattle.cm_geo.specs.declared.geo.Geo.{Geo}
+use Rattle.cm_geo.specs.declared.limits.TheConstants.{MAX_RUN_CHUNKS, MAX_KEY_BYTES, MAX_VALUE_BYTES}
 
 -- so many parts of this size hold it: the quotient, rounded up
 abbrev pub parts_for : ℕ → ℕ → ℕ
@@ -13,6 +14,6 @@ need geo key_len value_len = parts_for geo.chunk_words (2 + parts_for 8 key_len 
 -- a key and a value of these lengths may be stored
 pub record Fits (geo : Geo) (key_len value_len : ℕ) : Type 0 where
   pub key_some : 1 ≤ key_len
-  pub key_short : key_len ≤ 256
-  pub value_short : value_len ≤ 4096
-  pub few_chunks : need geo key_len value_len ≤ 64
+  pub key_short : key_len ≤ MAX_KEY_BYTES
+  pub value_short : value_len ≤ MAX_VALUE_BYTES
+  pub few_chunks : need geo key_len value_len ≤ MAX_RUN_CHUNKS

@@ -1,6 +1,7 @@
 -- What each word of a segment is for (own).
 use Rattle.std.specs.Prelude.{ℕ, ◌≡◌, ◌+◌, ◌*◌, ◌/◌, ◌<◌}
 use Rattle.cm_geo.specs.declared.geo.Geo.{Geo}
+use Rattle.cm_geo.specs.declared.limits.TheConstants.{WORD_BITS}
 use Rattle.cm_geo.specs.Addresses.{words_in_segment, tier_at, bits_at, slot_at, chunk_at}
 
 -- a head word of the segment; or at a tier's place a head word, a word of bits, a slot, or a word of a chunk
@@ -15,7 +16,7 @@ pub data Role : Type 0 where
 abbrev pub IsRole : Geo → Role → Type 0
 IsRole geo (segment_head word) = word < 4
 IsRole geo (tier_head place word) = (place < geo.tiers) × (word < 4)
-IsRole geo (bits place word) = (place < geo.tiers) × (word < geo.chunks / 64)
+IsRole geo (bits place word) = (place < geo.tiers) × (word < geo.chunks / WORD_BITS)
 IsRole geo (slot place number) = (place < geo.tiers) × (number < 2 * geo.chunks)
 IsRole geo (chunk place number word) = (place < geo.tiers) × (number < geo.chunks) × (word < geo.chunk_words)
 

@@ -3,6 +3,7 @@
 ghost use Rattle.std.specs.Prelude.{◌≡◌, ◌+◌, ◌*◌, ◌/◌, ◌<◌, ◌≤◌};
 
 use crate::geo::{Geo, segment_words, tier_words};
+use crate::limits::WORD_BITS;
 
 impl Geo {
     ghost use Rattle.cm_geo.specs.Addresses.{bits_at, chunk_at, slot_at, tier_at, words_in_map, words_in_segment};
@@ -37,7 +38,7 @@ impl Geo {
     #[tactic(auto, using(crate::proofs::AddressOrder::tier_fits), unfolding(crate::specs::Addresses::words_in_tier, crate::specs::Addresses::bits_at))]
     pub fn bits_at(&self, place: u32, word: u32) -> u32
         requires place { place < self.now.tiers }
-        requires word { word < self.now.chunks / 64 }
+        requires word { word < self.now.chunks / WORD_BITS }
         ensures value { result ≡ bits_at self.now place word }
         ensures in_range { result < words_in_segment self.now }
     {
@@ -52,7 +53,7 @@ impl Geo {
         ensures value { result ≡ slot_at self.now place slot }
         ensures in_range { result < words_in_segment self.now }
     {
-        self.tier_at(place) + 4 + self.chunks / 64 + slot
+        self.tier_at(place) + 4 + self.chunks / WORD_BITS + slot
     }
 
     /// The first word of a chunk of the tier at this place.
@@ -63,7 +64,7 @@ impl Geo {
         ensures value { result ≡ chunk_at self.now place chunk }
         ensures in_range { result + self.now.chunk_words ≤ words_in_segment self.now }
     {
-        let offset = 4 + self.chunks / 64 + 2 * self.chunks + chunk * self.chunk_words;
+        let offset = 4 + self.chunks / WORD_BITS + 2 * self.chunks + chunk * self.chunk_words;
         self.tier_at(place) + offset
     }
 }

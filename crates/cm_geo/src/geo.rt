@@ -1,9 +1,11 @@
 //! The five numbers of a map, within their limits.
 
 ghost use Rattle.std.specs.Prelude.{◌≡◌, ◌+◌, ◌*◌, ◌/◌, ◌%◌, ◌^◌, ◌<◌, ◌≤◌, ◌↔◌, IsTrue, MatchResult, Some, None};
+ghost use Rattle.cm_geo.specs.declared.limits.TheConstants.{MAX_MAP_WORDS};
 ghost use Rattle.cm_geo.specs.Limits.{is_segments, is_tiers, is_chunks, is_chunk_words};
 ghost use Rattle.cm_geo.specs.Layout.{tier_words, segment_words};
 
+use crate::limits::{MAX_KEY_BYTES, MAX_MAP_WORDS, MAX_RUN_CHUNKS, MAX_VALUE_BYTES, WORD_BITS};
 use crate::refused::GeoRefused;
 
 /// The geometry of a map.
@@ -23,11 +25,8 @@ pub struct Geo {
     pub ghost chunks_fit: { IsTrue (is_chunks chunks) },
     pub ghost chunk_words_fit: { IsTrue (is_chunk_words chunk_words) },
     pub ghost extra_fit: { extra + segments ≤ segments * tiers },
-    pub ghost words_fit: { segments * segment_words tiers chunks chunk_words ≤ 2 ^ 22 },
+    pub ghost words_fit: { segments * segment_words tiers chunks chunk_words ≤ MAX_MAP_WORDS },
 }
-
-// The words of the largest map: 32 MiB of them.
-const MOST_WORDS: u32 = 1 << 22;
 
 fn is_segments(segments: u32) -> bool
     ensures value { result ≡ is_segments segments }
@@ -61,7 +60,7 @@ pub(crate) fn tier_words(chunks: u32, chunk_words: u32) -> u32
     ensures value { result ≡ tier_words chunks chunk_words }
     ensures limit { result ≤ 73796 }
 {
-    4 + chunks / 64 + 2 * chunks + chunks * chunk_words
+    4 + chunks / WORD_BITS + 2 * chunks + chunks * chunk_words
 }
 
 pub(crate) fn segment_words(tiers: u32, chunks: u32, chunk_words: u32) -> u32
@@ -106,7 +105,7 @@ impl Geo {
         if extra > segments * (tiers - 1) {
             return Err(GeoRefused::Allowance);
         }
-        if segments * segment_words(tiers, chunks, chunk_words) > MOST_WORDS {
+        if segments * segment_words(tiers, chunks, chunk_words) > MAX_MAP_WORDS {
             return Err(GeoRefused::TooManyWords);
         }
         Ok(Geo {
@@ -154,23 +153,25 @@ impl Geo {
     }
 
     /// The segment of a key with this hash.
+    #[tactic(auto, using(crate::proofs::Powers::mask_of_segments))]
     pub fn segment_of(&self, hash: u64) -> u32
         ensures value { result ≡ segment_in self.now hash }
         ensures in_range { result < self.now.segments }
     {
-        (hash % u64::from(self.segments)) as u32
+        // The segments are a power of two, so a mask and a shift take a hash apart without a division.
+        (hash & u64::from(self.segments - 1)) as u32
     }
 
     /// The bits of this hash that a slot keeps: the 32 lowest of those that do not choose the segment.
     pub fn fingerprint_of(&self, hash: u64) -> u32
         ensures { result ≡ fingerprint_in self.now hash }
     {
-        let rest = hash / u64::from(self.segments);
+        let rest = hash >> self.segments.trailing_zeros();
         (rest & u64::from(u32::MAX)) as u32
     }
 
     /// The slot of a tier at which the search for this fingerprint begins.
-    #[tactic(auto, using(crate::proofs::Ranges::mask_of_chunks))]
+    #[tactic(auto, using(crate::proofs::Powers::mask_of_slots))]
     pub fn home_of(&self, fingerprint: u32) -> u32
         ensures value { result ≡ home_in self.now fingerprint }
         ensures in_range { result < 2 * self.now.chunks }
@@ -180,13 +181,15 @@ impl Geo {
     }
 
     /// The chunks of an entry with a key and a value of these lengths in bytes.
+    #[tactic(auto, using(crate::proofs::Powers::shift_of_chunk_words))]
     pub fn need(&self, key_len: u32, value_len: u32) -> u32
-        requires key_len { key_len ≤ 256 }
-        requires value_len { value_len ≤ 4096 }
+        requires key_len { key_len ≤ MAX_KEY_BYTES }
+        requires value_len { value_len ≤ MAX_VALUE_BYTES }
         ensures value { result ≡ need_in self.now key_len value_len }
     {
         let words = 2 + key_len.div_ceil(8) + value_len.div_ceil(8);
-        words.div_ceil(self.chunk_words)
+        // The words of a chunk are a power of two, so the shift divides by them.
+        (words + self.chunk_words - 1) >> self.chunk_words.trailing_zeros()
     }
 
     /// Whether an entry with a key and a value of these lengths in bytes may be stored: the key has 1 to
@@ -194,6 +197,9 @@ impl Geo {
     pub fn fits(&self, key_len: u32, value_len: u32) -> bool
         ensures { IsTrue result ↔ Fits self.now key_len value_len }
     {
-        1 <= key_len && key_len <= 256 && value_len <= 4096 && self.need(key_len, value_len) <= 64
+        1 <= key_len
+            && key_len <= MAX_KEY_BYTES
+            && value_len <= MAX_VALUE_BYTES
+            && self.need(key_len, value_len) <= MAX_RUN_CHUNKS
     }
 }

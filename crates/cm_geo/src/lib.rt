@@ -5,6 +5,7 @@ mod addresses;
 mod fnv;
 mod geo;
 mod laws;
+mod limits;
 mod refused;
 #[cfg(test)]
 mod tests;
@@ -12,4 +13,5 @@ mod tests;
 pub use fnv::{hash, hash_byte};
 pub use geo::Geo;
 pub use laws::each_word_has_one_role;
+pub use limits::{MAX_KEY_BYTES, MAX_MAP_WORDS, MAX_RUN_CHUNKS, MAX_VALUE_BYTES, WORD_BITS};
 pub use refused::GeoRefused;

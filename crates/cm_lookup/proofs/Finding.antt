@@ -6,10 +6,10 @@ use Rattle.cm_geo.specs.Addresses.{slot_at}
 use Rattle.cm_geo.specs.Hash.{home_in}
 use Rattle.cm_geo.proofs.Ranges.{chunks_range}
 use Rattle.cm_plain.specs.Slots.{Slot, slot_in}
-use Rattle.cm_plain.specs.Lawful.{steps_between}
+use Rattle.cm_plain.specs.Lawful.{KeepsSlotLaw, steps_between}
 use Rattle.cm_lookup.specs.declared.hit.Hit.{Hit}
 use Rattle.cm_lookup.specs.Probing.{HasNoHit, IsFirstEmpty, IsFirstHit, IsHit, IsPassed, probe}
-use Rattle.cm_lookup.specs.Tiers.{HasEmptySlot, KeepsSlotLaw, ring_of}
+use Rattle.cm_lookup.specs.Tiers.{HasEmptySlot, ring_of}
 use Rattle.cm_lookup.proofs.RingArithmetic.{onward-way, way_below}
 use Rattle.cm_lookup.proofs.SlotWords.{half_chunk, slot_empty, slot_parts, slot_some}
 
@@ -107,7 +107,7 @@ one_first_empty geo words place fingerprint a b one other = elim (cases_order on
 
 -- each slot of a tier is a probe
 pub slot_is_probe : (geo : Geo) (fingerprint number : ℕ) → number < 2 * geo.chunks
-    → (steps_between geo (home_in geo fingerprint) number < 2 * geo.chunks) × (probe geo fingerprint (steps_between geo (home_in geo fingerprint) number) ≡ number)
+    → (steps_between (2 * geo.chunks) (home_in geo fingerprint) number < 2 * geo.chunks) × (probe geo fingerprint (steps_between (2 * geo.chunks) (home_in geo fingerprint) number) ≡ number)
 slot_is_probe geo fingerprint number below =
     let occupied : 0 < 2 * geo.chunks = omega (arith, chunks_range geo) in
     (way_below (ring_of geo) (home_in geo fingerprint) number occupied, onward-way (ring_of geo) (home_in geo fingerprint) number (mod-lt fingerprint occupied) below)
@@ -116,19 +116,19 @@ slot_is_probe geo fingerprint number below =
 pub round_meets : (geo : Geo) (words : List ℕ) (place fingerprint : ℕ) → HasEmptySlot geo words place → ((steps : ℕ) → steps < 2 * geo.chunks → slot_in geo words place (probe geo fingerprint steps) ≢ None) → ⊥
 round_meets geo words place fingerprint empty none =
     let there = slot_is_probe geo fingerprint empty.0 empty.1 in
-    none (steps_between geo (home_in geo fingerprint) empty.0) there.0 (ap (slot_in geo words place) there.1 ∙ empty.2)
+    none (steps_between (2 * geo.chunks) (home_in geo fingerprint) empty.0) there.0 (ap (slot_in geo words place) there.1 ∙ empty.2)
 
 -- in a tier that keeps the slot law, a search from the home on passes no slot of its fingerprint
 pub law_finds : (geo : Geo) (words : List ℕ) (place fingerprint from number chunk : ℕ) → KeepsSlotLaw geo words place → number < 2 * geo.chunks → chunk < geo.chunks
-    → slot_in geo words place number ≡ Some (record { fingerprint = fingerprint; chunk = Some chunk }) → HasNoHit geo words place fingerprint from → steps_between geo (home_in geo fingerprint) number < from
+    → slot_in geo words place number ≡ Some (record { fingerprint = fingerprint; chunk = Some chunk }) → HasNoHit geo words place fingerprint from → steps_between (2 * geo.chunks) (home_in geo fingerprint) number < from
 law_finds geo words place fingerprint from number chunk law below chunk_below is none =
     let there = slot_is_probe geo fingerprint number below in
-    let steps : ℕ = steps_between geo (home_in geo fingerprint) number in
-    elim (cases_lt (steps_between geo (home_in geo fingerprint) number) from) [
+    let steps : ℕ = steps_between (2 * geo.chunks) (home_in geo fingerprint) number in
+    elim (cases_lt (steps_between (2 * geo.chunks) (home_in geo fingerprint) number) from) [
       | inl before ↦ before
-      | inr not_before ↦ elim (cases_lt (steps_between geo (home_in geo fingerprint) number) none.end) [
-        | inl inside ↦ absurd ((none.before (steps_between geo (home_in geo fingerprint) number) not_before inside).other
-            (record { steps = steps_between geo (home_in geo fingerprint) number; slot = number; chunk = chunk }) refl (record { slot_is = sym there.1; found = is; below = chunk_below }))
+      | inr not_before ↦ elim (cases_lt (steps_between (2 * geo.chunks) (home_in geo fingerprint) number) none.end) [
+        | inl inside ↦ absurd ((none.before (steps_between (2 * geo.chunks) (home_in geo fingerprint) number) not_before inside).other
+            (record { steps = steps_between (2 * geo.chunks) (home_in geo fingerprint) number; slot = number; chunk = chunk }) refl (record { slot_is = sym there.1; found = is; below = chunk_below }))
         | inr behind ↦ absurd (ends (none.empty (omega (arith, there.0))) behind there.1)
       ]
     ]
@@ -136,10 +136,10 @@ law_finds geo words place fingerprint from number chunk law below chunk_below is
     clash : (slot : Slot) → Some slot ≡ None → ⊥
     clash slot e = cc e
 
-    ends : slot_in geo words place (probe geo fingerprint none.end) ≡ None → none.end ≤ steps_between geo (home_in geo fingerprint) number
-        → probe geo fingerprint (steps_between geo (home_in geo fingerprint) number) ≡ number → ⊥
-    ends empty behind there = elim (cases_lt none.end (steps_between geo (home_in geo fingerprint) number)) [
+    ends : slot_in geo words place (probe geo fingerprint none.end) ≡ None → none.end ≤ steps_between (2 * geo.chunks) (home_in geo fingerprint) number
+        → probe geo fingerprint (steps_between (2 * geo.chunks) (home_in geo fingerprint) number) ≡ number → ⊥
+    ends empty behind there = elim (cases_lt none.end (steps_between (2 * geo.chunks) (home_in geo fingerprint) number)) [
       | inl less ↦ law number (record { fingerprint = fingerprint; chunk = Some chunk }) below is none.end less empty
-      | inr more ↦ (let same : none.end ≡ steps_between geo (home_in geo fingerprint) number = omega arith in
+      | inr more ↦ (let same : none.end ≡ steps_between (2 * geo.chunks) (home_in geo fingerprint) number = omega arith in
           clash (record { fingerprint = fingerprint; chunk = Some chunk }) (sym is ∙ (ap (slot_in geo words place) (sym there ∙ ap (probe geo fingerprint) (sym same)) ∙ empty)))
     ]

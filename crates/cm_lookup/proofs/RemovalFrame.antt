@@ -5,11 +5,12 @@ use Rattle.cm_geo.specs.Addresses.{bits_at, chunk_at, slot_at, tier_at, words_in
 use Rattle.cm_geo.proofs.AddressesApart.{run_not_slot, slot_not_bits, slot_not_tier_head, slots_apart}
 use Rattle.cm_plain.specs.Slots.{Slot, slot_in, slot_of_word, word_at}
 use Rattle.cm_plain.proofs.Each.{each_append}
+use Rattle.cm_plain.specs.Lawful.{KeepsSlotLaw}
 use Rattle.cm_lookup.specs.Rings.{Ring}
 use Rattle.cm_lookup.specs.Shifts.{IsShift, Shift}
 use Rattle.cm_words.specs.Stores.{WordStore, after_stores}
 use Rattle.cm_lookup.specs.Shifts.Shift.{begins, stays, moves}
-use Rattle.cm_lookup.specs.Tiers.{HasEmptySlot, KeepsSlotLaw, LostSlot, at_slots, ring_of, slot_words}
+use Rattle.cm_lookup.specs.Tiers.{HasEmptySlot, LostSlot, at_slots, ring_of, slot_words}
 use Rattle.cm_lookup.proofs.RingArithmetic.{onward_below}
 use Rattle.cm_lookup.proofs.Shifting.{IsTable, removed, shifting}
 use Rattle.cm_lookup.proofs.RingMembers.{still_there, stood_before}

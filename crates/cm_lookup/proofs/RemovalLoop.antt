@@ -51,7 +51,7 @@ here_is_tier m geo place slot words here fits = record { length_is = fits.are.le
 
 -- a word that is looked at next stood there before
 looked_before : (old now : MemSeen) (geo : Geo) (place slot hole steps : ℕ) (words before : List ℕ) (at word : ℕ) → IsHere old geo place slot → FitsNotes old before → LeadsShift old now geo place slot hole steps before words → steps < 2 * geo.chunks
-    → at ≡ slot_at geo place (slot_behind geo slot steps) → FitsNotes now words → Knows now at word → word_behind (ring_of geo) (slot_words geo before place) slot steps ≡ word
+    → at ≡ slot_at geo place (slot_behind (2 * geo.chunks) slot steps) → FitsNotes now words → Knows now at word → word_behind (ring_of geo) (slot_words geo before place) slot steps ≡ word
 looked_before old now geo place slot hole steps words before at word here fitted came below at_is fits knows =
     let tier = here_is_tier old geo place slot before here fitted in
     let table = tier_is_table geo before place slot tier in
@@ -59,13 +59,13 @@ looked_before old now geo place slot hole steps words before at word here fitted
     let now_is : slot_words geo words place ≡ after_stores (slot_words geo before place) came.made =
     ap (λ (ws : List ℕ). slot_words geo ws place) (sym came.by.leads)
     ∙ slot_words_after geo before place came.made tier.length_is tier.place_inside (shift_within (ring_of geo) (slot_words geo before place) slot hole steps came.made table.ring_is.nonzero came.shift) in
-    sym (so_far.ahead steps (omega arith) below) ∙ (ap (λ (ws : List ℕ). get_or ws (slot_behind geo slot steps) 0) (sym now_is)
-    ∙ (slot_words_at geo words place (slot_behind geo slot steps) (onward_below (ring_of geo) slot steps table.ring_is.nonzero)
-    ∙ known_word now (slot_at geo place (slot_behind geo slot steps)) at word (slot_inner geo place (slot_behind geo slot steps)) at_is knows words fits))
+    sym (so_far.ahead steps (omega arith) below) ∙ (ap (λ (ws : List ℕ). get_or ws (slot_behind (2 * geo.chunks) slot steps) 0) (sym now_is)
+    ∙ (slot_words_at geo words place (slot_behind (2 * geo.chunks) slot steps) (onward_below (ring_of geo) slot steps table.ring_is.nonzero)
+    ∙ known_word now (slot_at geo place (slot_behind (2 * geo.chunks) slot steps)) at word (slot_inner geo place (slot_behind (2 * geo.chunks) slot steps)) at_is knows words fits))
 
 -- a word that stays
 pub shifted_stays : (old now : MemSeen) (geo : Geo) (place slot hole steps at word : ℕ) → IsHere old geo place slot → Shifted old now geo place slot hole steps → steps < 2 * geo.chunks
-    → at ≡ slot_at geo place (slot_behind geo slot steps) → Knows now at word → word ≢ 0 → Stays (ring_of geo) slot hole steps word → Shifted old now geo place slot hole (steps + 1)
+    → at ≡ slot_at geo place (slot_behind (2 * geo.chunks) slot steps) → Knows now at word → word ≢ 0 → Stays (ring_of geo) slot hole steps word → Shifted old now geo place slot hole (steps + 1)
 shifted_stays old now geo place slot hole steps at word here so_far below at_is knows nonzero stay = record {
   kept = so_far.kept;
   noted = so_far.noted;
@@ -92,24 +92,24 @@ allowed_as s t p q o o' ws ws' at at' w w' e f g h i j allowed = rw (e, f, g, h,
 
 -- the store of a word that moves is allowed
 pub may_move : (old now : MemSeen) (geo : Geo) (place slot hole steps at left word : ℕ) → IsHere old geo place slot → MayShift old geo place slot → Shifted old now geo place slot hole steps → steps < 2 * geo.chunks
-    → at ≡ slot_at geo place (slot_behind geo slot steps) → left ≡ slot_at geo place (slot_behind geo slot hole) → Knows now at word → word ≢ 0 → (Stays (ring_of geo) slot hole steps word → ⊥) → MayStore now left word
+    → at ≡ slot_at geo place (slot_behind (2 * geo.chunks) slot steps) → left ≡ slot_at geo place (slot_behind (2 * geo.chunks) slot hole) → Knows now at word → word ≢ 0 → (Stays (ring_of geo) slot hole steps word → ⊥) → MayStore now left word
 may_move old now geo place slot hole steps at left word here may so_far below at_is left_is knows nonzero fuse words fits =
     let far = so_far.came words fits in
     let is = looked_before old now geo place slot hole steps words far.0 at word here far.1.fits far.1.relates below at_is fits knows in
-    allowed_as now.setting old.setting now.plan old.plan (origin now words) (origin old far.0) words (after_stores far.0 (at_slots geo place far.1.relates.made)) left (slot_at geo place (slot_behind geo slot hole)) word (word_behind (ring_of geo) (slot_words geo far.0 place) slot steps)
+    allowed_as now.setting old.setting now.plan old.plan (origin now words) (origin old far.0) words (after_stores far.0 (at_slots geo place far.1.relates.made)) left (slot_at geo place (slot_behind (2 * geo.chunks) slot hole)) word (word_behind (ring_of geo) (slot_words geo far.0 place) slot steps)
     so_far.kept.setting so_far.kept.plan far.1.origin (sym far.1.relates.by.leads) left_is (sym is)
-    (may far.0 far.1.fits far.1.relates.made (slot_behind geo slot hole) (word_behind (ring_of geo) (slot_words geo far.0 place) slot steps)
+    (may far.0 far.1.fits far.1.relates.made (slot_behind (2 * geo.chunks) slot hole) (word_behind (ring_of geo) (slot_words geo far.0 place) slot steps)
     (moved hole steps far.1.relates.made far.1.relates.shift below (subst (λ (w : ℕ). w ≢ 0) (sym is) nonzero) (subst (λ (w : ℕ). Stays (ring_of geo) slot hole steps w → ⊥) (sym is) fuse)))
 
 -- and so is the last store
 pub may_end : (old now : MemSeen) (geo : Geo) (place slot hole steps at left word : ℕ) → IsHere old geo place slot → MayShift old geo place slot → Shifted old now geo place slot hole steps → steps < 2 * geo.chunks
-    → at ≡ slot_at geo place (slot_behind geo slot steps) → left ≡ slot_at geo place (slot_behind geo slot hole) → Knows now at word → word ≡ 0 → MayStore now left 0
+    → at ≡ slot_at geo place (slot_behind (2 * geo.chunks) slot steps) → left ≡ slot_at geo place (slot_behind (2 * geo.chunks) slot hole) → Knows now at word → word ≡ 0 → MayStore now left 0
 may_end old now geo place slot hole steps at left word here may so_far below at_is left_is knows none words fits =
     let far = so_far.came words fits in
     let is = looked_before old now geo place slot hole steps words far.0 at word here far.1.fits far.1.relates below at_is fits knows in
-    allowed_as now.setting old.setting now.plan old.plan (origin now words) (origin old far.0) words (after_stores far.0 (at_slots geo place far.1.relates.made)) left (slot_at geo place (slot_behind geo slot hole)) 0 0
+    allowed_as now.setting old.setting now.plan old.plan (origin now words) (origin old far.0) words (after_stores far.0 (at_slots geo place far.1.relates.made)) left (slot_at geo place (slot_behind (2 * geo.chunks) slot hole)) 0 0
     so_far.kept.setting so_far.kept.plan far.1.origin (sym far.1.relates.by.leads) left_is refl
-    (may far.0 far.1.fits far.1.relates.made (slot_behind geo slot hole) 0 (emptied hole steps far.1.relates.made far.1.relates.shift below (is ∙ none)))
+    (may far.0 far.1.fits far.1.relates.made (slot_behind (2 * geo.chunks) slot hole) 0 (emptied hole steps far.1.relates.made far.1.relates.shift below (is ∙ none)))
 
 -- one more store of the shift
 one_more_leads : (old a b : MemSeen) (geo : Geo) (before mid words : List ℕ) (place number left word other : ℕ) (made : List WordStore) → Leads old a (at_slots geo place made) before mid → Leads a b (store_at left word ∷ []) mid words
@@ -121,7 +121,7 @@ one_more_leads old a b geo before mid words place number left word other made on
 
 -- a word that moves
 pub shifted_moves : (old a b : MemSeen) (geo : Geo) (place slot hole steps at left word : ℕ) → IsHere old geo place slot → Shifted old a geo place slot hole steps → steps < 2 * geo.chunks
-    → at ≡ slot_at geo place (slot_behind geo slot steps) → left ≡ slot_at geo place (slot_behind geo slot hole) → Knows a at word → word ≢ 0 → (Stays (ring_of geo) slot hole steps word → ⊥)
+    → at ≡ slot_at geo place (slot_behind (2 * geo.chunks) slot steps) → left ≡ slot_at geo place (slot_behind (2 * geo.chunks) slot hole) → Knows a at word → word ≢ 0 → (Stays (ring_of geo) slot hole steps word → ⊥)
     → Writes a b (store_at left word ∷ []) → Shifted old b geo place slot steps (steps + 1)
 shifted_moves old a b geo place slot hole steps at left word here so_far below at_is left_is knows nonzero fuse writes = record {
   kept = keeps_transitive old a b so_far.kept writes.kept;
@@ -135,8 +135,8 @@ shifted_moves old a b geo place slot hole steps at left word here so_far below a
           fits = far.1.fits;
           origin = mid.1.origin ∙ far.1.origin;
           relates = record {
-            made = far.1.relates.made ++ store_at (slot_behind geo slot hole) (word_behind (ring_of geo) (slot_words geo far.0 place) slot steps) ∷ [];
-            by = one_more_leads old a b geo far.0 mid.0 words place (slot_behind geo slot hole) left word (word_behind (ring_of geo) (slot_words geo far.0 place) slot steps) far.1.relates.made far.1.relates.by mid.1.relates left_is is;
+            made = far.1.relates.made ++ store_at (slot_behind (2 * geo.chunks) slot hole) (word_behind (ring_of geo) (slot_words geo far.0 place) slot steps) ∷ [];
+            by = one_more_leads old a b geo far.0 mid.0 words place (slot_behind (2 * geo.chunks) slot hole) left word (word_behind (ring_of geo) (slot_words geo far.0 place) slot steps) far.1.relates.made far.1.relates.by mid.1.relates left_is is;
             shift = moves hole steps far.1.relates.made far.1.relates.shift below (subst (λ (w : ℕ). w ≢ 0) (sym is) nonzero) (subst (λ (w : ℕ). Stays (ring_of geo) slot hole steps w → ⊥) (sym is) fuse);
           };
         },
@@ -145,7 +145,7 @@ shifted_moves old a b geo place slot hole steps at left word here so_far below a
 
 -- the last store
 pub removes_end : (old a b : MemSeen) (geo : Geo) (place slot hole steps at left word : ℕ) → IsHere old geo place slot → Shifted old a geo place slot hole steps → steps < 2 * geo.chunks
-    → at ≡ slot_at geo place (slot_behind geo slot steps) → left ≡ slot_at geo place (slot_behind geo slot hole) → Knows a at word → word ≡ 0 → Writes a b (store_at left 0 ∷ []) → Removes old b geo place slot
+    → at ≡ slot_at geo place (slot_behind (2 * geo.chunks) slot steps) → left ≡ slot_at geo place (slot_behind (2 * geo.chunks) slot hole) → Knows a at word → word ≡ 0 → Writes a b (store_at left 0 ∷ []) → Removes old b geo place slot
 removes_end old a b geo place slot hole steps at left word here so_far below at_is left_is knows none writes = record {
   kept = keeps_transitive old a b so_far.kept writes.kept;
   noted = λ k h. writes.noted k (so_far.noted k h);
@@ -153,20 +153,20 @@ removes_end old a b geo place slot hole steps at left word here so_far below at_
       let mid = writes.came words fits in
       let far = so_far.came mid.0 mid.1.fits in
       let is = looked_before old a geo place slot hole steps mid.0 far.0 at word here far.1.fits far.1.relates below at_is mid.1.fits knows in
-      let by : Leads old b (at_slots geo place (far.1.relates.made ++ store_at (slot_behind geo slot hole) 0 ∷ [])) far.0 words =
-      one_more_leads old a b geo far.0 mid.0 words place (slot_behind geo slot hole) left 0 0 far.1.relates.made far.1.relates.by mid.1.relates left_is refl in
-      let whole : IsShift (ring_of geo) (slot_words geo far.0 place) slot (far.1.relates.made ++ store_at (slot_behind geo slot hole) 0 ∷ []) =
+      let by : Leads old b (at_slots geo place (far.1.relates.made ++ store_at (slot_behind (2 * geo.chunks) slot hole) 0 ∷ [])) far.0 words =
+      one_more_leads old a b geo far.0 mid.0 words place (slot_behind (2 * geo.chunks) slot hole) left 0 0 far.1.relates.made far.1.relates.by mid.1.relates left_is refl in
+      let whole : IsShift (ring_of geo) (slot_words geo far.0 place) slot (far.1.relates.made ++ store_at (slot_behind (2 * geo.chunks) slot hole) 0 ∷ []) =
       record { hole = hole; steps = steps; made = far.1.relates.made; shift = far.1.relates.shift; within = below; empty = is ∙ none; stores_are = refl } in (
         far.0,
         record {
           fits = far.1.fits;
           origin = mid.1.origin ∙ far.1.origin;
           relates = record {
-            stores = far.1.relates.made ++ store_at (slot_behind geo slot hole) 0 ∷ [];
+            stores = far.1.relates.made ++ store_at (slot_behind (2 * geo.chunks) slot hole) 0 ∷ [];
             by = by;
             whole = λ can. whole;
             lost = λ can. subst (λ (ws : List ℕ). LostSlot geo far.0 ws place slot) by.leads
-                (lost_slot geo far.0 place slot (far.1.relates.made ++ store_at (slot_behind geo slot hole) 0 ∷ []) (here_is_tier old geo place slot far.0 here far.1.fits) can.removed can.law whole);
+                (lost_slot geo far.0 place slot (far.1.relates.made ++ store_at (slot_behind (2 * geo.chunks) slot hole) 0 ∷ []) (here_is_tier old geo place slot far.0 here far.1.fits) can.removed can.law whole);
           };
         },
       );
@@ -191,37 +191,37 @@ removes_round old now geo place slot hole steps here so_far past =
         omega arith
 
 -- the slot at a number of steps, by the code's mask
-pub at_behind : (geo : Geo) (slots slot steps : ℕ) → slots ≡ 2 * geo.chunks → bit_and (slot + steps) (slots - 1) ≡ slot_behind geo slot steps
+pub at_behind : (geo : Geo) (slots slot steps : ℕ) → slots ≡ 2 * geo.chunks → bit_and (slot + steps) (slots - 1) ≡ slot_behind (2 * geo.chunks) slot steps
 at_behind geo slots slot steps slots_is = rw slots_is (mask_behind geo slot steps)
 
 -- and its address, counted from the tier's first slot
-pub at_behind_from : (geo : Geo) (place first slots slot steps : ℕ) → first ≡ slot_at geo place 0 → slots ≡ 2 * geo.chunks → first + bit_and (slot + steps) (slots - 1) ≡ slot_at geo place (slot_behind geo slot steps)
+pub at_behind_from : (geo : Geo) (place first slots slot steps : ℕ) → first ≡ slot_at geo place 0 → slots ≡ 2 * geo.chunks → first + bit_and (slot + steps) (slots - 1) ≡ slot_at geo place (slot_behind (2 * geo.chunks) slot steps)
 at_behind_from geo place first slots slot steps first_is slots_is = slot_from_first geo place first _ first_is ∙ ap (slot_at geo place) (at_behind geo slots slot steps slots_is)
 
 -- it lies in the segment
 pub behind_in_range : (m : MemSeen) (geo : Geo) (place first slots slot steps : ℕ) → place < geo.tiers → m.setting.geo ≡ geo → first ≡ slot_at geo place 0 → slots ≡ 2 * geo.chunks
     → first + bit_and (slot + steps) (slots - 1) < words_in_segment m.setting.geo
 behind_in_range m geo place first slots slot steps place_below geo_is first_is slots_is =
-    rw (geo_is, at_behind_from geo place first slots slot steps first_is slots_is) (slot_in_range geo place (slot_behind geo slot steps) place_below (mod-lt (slot + steps) (omega (arith, chunks_range geo))))
+    rw (geo_is, at_behind_from geo place first slots slot steps first_is slots_is) (slot_in_range geo place (slot_behind (2 * geo.chunks) slot steps) place_below (mod-lt (slot + steps) (omega (arith, chunks_range geo))))
 
 -- behind the lock word and the change number
 pub behind_inner : (geo : Geo) (place first slots slot steps : ℕ) → first ≡ slot_at geo place 0 → slots ≡ 2 * geo.chunks → 1 < first + bit_and (slot + steps) (slots - 1)
-behind_inner geo place first slots slot steps first_is slots_is = rw (at_behind_from geo place first slots slot steps first_is slots_is) (slot_inner geo place (slot_behind geo slot steps))
+behind_inner geo place first slots slot steps first_is slots_is = rw (at_behind_from geo place first slots slot steps first_is slots_is) (slot_inner geo place (slot_behind (2 * geo.chunks) slot steps))
 
 -- the home of a word's fingerprint, by the code's mask
 pub home_by : (geo : Geo) (slots word : ℕ) → slots ≡ 2 * geo.chunks → bit_and (word / 2 ^ 32) (slots - 1) ≡ home_in geo (word / 2 ^ 32)
 home_by geo slots word slots_is = rw slots_is (mask_of_chunks (word / 2 ^ 32) geo.chunks geo.chunks_fit)
 
 -- the code's test, by its mask
-way_test : (geo : Geo) (slots slot steps at home word : ℕ) → slots ≡ 2 * geo.chunks → at ≡ slot_behind geo slot steps → home ≡ home_in geo (word / 2 ^ 32)
-    → bit_and (at + slots - home) (slots - 1) ≡ steps_between geo (home_in geo (word / 2 ^ 32)) (slot_behind geo slot steps)
-way_test geo slots slot steps at home word slots_is at_is home_is = rw (slots_is, at_is, home_is) (mask_between geo (home_in geo (word / 2 ^ 32)) (slot_behind geo slot steps))
+way_test : (geo : Geo) (slots slot steps at home word : ℕ) → slots ≡ 2 * geo.chunks → at ≡ slot_behind (2 * geo.chunks) slot steps → home ≡ home_in geo (word / 2 ^ 32)
+    → bit_and (at + slots - home) (slots - 1) ≡ steps_between (2 * geo.chunks) (home_in geo (word / 2 ^ 32)) (slot_behind (2 * geo.chunks) slot steps)
+way_test geo slots slot steps at home word slots_is at_is home_is = rw (slots_is, at_is, home_is) (mask_between geo (home_in geo (word / 2 ^ 32)) (slot_behind (2 * geo.chunks) slot steps))
 
-pub goes_by : (geo : Geo) (slots slot hole steps at home word : ℕ) → slots ≡ 2 * geo.chunks → at ≡ slot_behind geo slot steps → home ≡ home_in geo (word / 2 ^ 32)
+pub goes_by : (geo : Geo) (slots slot hole steps at home word : ℕ) → slots ≡ 2 * geo.chunks → at ≡ slot_behind (2 * geo.chunks) slot steps → home ≡ home_in geo (word / 2 ^ 32)
     → steps ≤ bit_and (at + slots - home) (slots - 1) + hole → Stays (ring_of geo) slot hole steps word → ⊥
 goes_by geo slots slot hole steps at home word slots_is at_is home_is far stay = omega (arith, way_test geo slots slot steps at home word slots_is at_is home_is, far, stay)
 
-pub stays_by : (geo : Geo) (slots slot hole steps at home word : ℕ) → slots ≡ 2 * geo.chunks → at ≡ slot_behind geo slot steps → home ≡ home_in geo (word / 2 ^ 32)
+pub stays_by : (geo : Geo) (slots slot hole steps at home word : ℕ) → slots ≡ 2 * geo.chunks → at ≡ slot_behind (2 * geo.chunks) slot steps → home ≡ home_in geo (word / 2 ^ 32)
     → bit_and (at + slots - home) (slots - 1) + hole < steps → Stays (ring_of geo) slot hole steps word
 stays_by geo slots slot hole steps at home word slots_is at_is home_is near = omega (arith, way_test geo slots slot steps at home word slots_is at_is home_is, near)
 

@@ -3,7 +3,7 @@ use Rattle.std.proofs.Common.{◌≡◌, ℕ, List, subst}
 use Rattle.cm_geo.specs.declared.geo.Geo.{Geo}
 use Rattle.cm_words.specs.Memory.{FitsNotes, MemSeen, origin}
 use Rattle.cm_lookup.specs.Removals.{CanLose, Removes, ShiftsPart}
-use Rattle.cm_lookup.specs.Tiers.{KeepsSlotLaw}
+use Rattle.cm_plain.specs.Lawful.{KeepsSlotLaw}
 use Rattle.cm_lookup.proofs.LostEntry.{Rearranged, shift_rearranges}
 use Rattle.cm_lookup.proofs.PartialShift.{IsMidway, midway}
 use Rattle.cm_lookup.proofs.PartialShift.PartOrWhole.{part, whole}

@@ -9,10 +9,10 @@ use Rattle.cm_geo.proofs.Ranges.{chunks_range}
 use Rattle.cm_geo.proofs.AddressOrder.{slot_in_range}
 use Rattle.cm_geo.proofs.Unchanged.{slot_kept_by_bits, slot_kept_by_chunk_word, slot_kept_by_slot, slot_kept_by_tier_head}
 use Rattle.cm_plain.specs.Slots.{Slot, slot_in, slot_of_word}
-use Rattle.cm_plain.specs.Lawful.{steps_between}
+use Rattle.cm_plain.specs.Lawful.{KeepsSlotLaw, steps_between}
 use Rattle.cm_lookup.specs.Probing.{IsFirstEmpty, probe}
 use Rattle.cm_lookup.specs.Rings.{Ring, KeepsLaw, way, word_behind, occupied_words}
-use Rattle.cm_lookup.specs.Tiers.{KeepsSlotLaw, ring_of, slot_word, slot_words}
+use Rattle.cm_lookup.specs.Tiers.{ring_of, slot_word, slot_words}
 use Rattle.cm_lookup.proofs.RingArithmetic.{way-onward}
 use Rattle.cm_lookup.proofs.OccupiedWords.{taken_off}
 use Rattle.cm_lookup.proofs.Finding.{probe_below}
@@ -79,7 +79,7 @@ law_put ring slots at word inside nonzero law reached number other below is othe
 
 -- in a tier
 pub slot_law_put : (geo : Geo) (words : List ℕ) (place number word : ℕ) → length words ≡ words_in_segment geo → place < geo.tiers → number < 2 * geo.chunks → word ≢ 0 → KeepsSlotLaw geo words place
-    → ((steps : ℕ) → steps < steps_between geo (home_in geo (word / 2 ^ 32)) number → slot_in geo words place (probe geo (word / 2 ^ 32) steps) ≢ None)
+    → ((steps : ℕ) → steps < steps_between (2 * geo.chunks) (home_in geo (word / 2 ^ 32)) number → slot_in geo words place (probe geo (word / 2 ^ 32) steps) ≢ None)
     → KeepsSlotLaw geo (slice_set words (slot_at geo place number) word) place
 slot_law_put geo words place number word length_is place_below below nonzero law reached =
     law_of_tier geo (slice_set words (slot_at geo place number) word) place
@@ -101,10 +101,10 @@ slot_law_put_first geo words place number fingerprint chunk length_is place_belo
     let nonzero : 0 < 2 * geo.chunks = omega (arith, chunks_range geo) in
     let below : number < 2 * geo.chunks = subst (λ (k : ℕ). k < 2 * geo.chunks) (sym first.slot_is) (probe_below geo fingerprint first.steps) in
     let upper : slot_word fingerprint chunk / 2 ^ 32 ≡ fingerprint = upper_of_slot_word geo fingerprint chunk chunk_below in
-    let way_is : steps_between geo (home_in geo fingerprint) number ≡ first.steps =
-    ap (steps_between geo (home_in geo fingerprint)) first.slot_is ∙ way-onward (ring_of geo) (home_in geo fingerprint) first.steps (mod-lt fingerprint nonzero) first.inside in
+    let way_is : steps_between (2 * geo.chunks) (home_in geo fingerprint) number ≡ first.steps =
+    ap (steps_between (2 * geo.chunks) (home_in geo fingerprint)) first.slot_is ∙ way-onward (ring_of geo) (home_in geo fingerprint) first.steps (mod-lt fingerprint nonzero) first.inside in
     slot_law_put geo words place number (slot_word fingerprint chunk) length_is place_below below (omega arith) law
-    (subst (λ (f : ℕ). (steps : ℕ) → steps < steps_between geo (home_in geo f) number → slot_in geo words place (probe geo f steps) ≢ None) (sym upper)
+    (subst (λ (f : ℕ). (steps : ℕ) → steps < steps_between (2 * geo.chunks) (home_in geo f) number → slot_in geo words place (probe geo f steps) ≢ None) (sym upper)
     (λ steps on_way. first.before steps (omega (arith, on_way, way_is))))
 
 -- over a slot of the same fingerprint
@@ -113,7 +113,7 @@ pub slot_law_put_over : (geo : Geo) (words : List ℕ) (place number fingerprint
 slot_law_put_over geo words place number fingerprint chunk slot length_is place_below below chunk_below law is same =
     let upper : slot_word fingerprint chunk / 2 ^ 32 ≡ fingerprint = upper_of_slot_word geo fingerprint chunk chunk_below in
     slot_law_put geo words place number (slot_word fingerprint chunk) length_is place_below below (omega arith) law
-    (subst (λ (f : ℕ). (steps : ℕ) → steps < steps_between geo (home_in geo f) number → slot_in geo words place (probe geo f steps) ≢ None) (same ∙ sym upper) (law number slot below is))
+    (subst (λ (f : ℕ). (steps : ℕ) → steps < steps_between (2 * geo.chunks) (home_in geo f) number → slot_in geo words place (probe geo f steps) ≢ None) (same ∙ sym upper) (law number slot below is))
 
 -- ---- the words of the slots after a word was put
 

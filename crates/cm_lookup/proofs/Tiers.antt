@@ -11,10 +11,10 @@ use Rattle.cm_geo.proofs.Ranges.{chunks_range}
 use Rattle.cm_geo.proofs.AddressOrder.{slot_in_range, slots_behind_head, tier_behind_head}
 use Rattle.cm_geo.proofs.AddressesApart.{slots_apart}
 use Rattle.cm_plain.specs.Slots.{chunk_of_half, slot_in, word_at}
-use Rattle.cm_plain.specs.Lawful.{slot_behind, steps_between}
+use Rattle.cm_plain.specs.Lawful.{KeepsSlotLaw, slot_behind, steps_between}
 use Rattle.cm_lookup.specs.Rings.{IsRing, KeepsLaw}
 use Rattle.cm_words.specs.Stores.{WordStore, after_stores}
-use Rattle.cm_lookup.specs.Tiers.{KeepsSlotLaw, at_slots, ring_of, slot_words}
+use Rattle.cm_lookup.specs.Tiers.{at_slots, ring_of, slot_words}
 use Rattle.cm_lookup.proofs.SlotWords.{slot_empty, slot_parts, slot_some}
 
 -- a tier's slots are a ring
@@ -86,8 +86,8 @@ law_of_ring geo words place law number word below is nonzero steps on_way =
     let there = slot_some geo words place number word (sym (slot_words_at geo words place number below) ∙ is) nonzero in
     let some_ring : 0 < 2 * geo.chunks = omega (arith, chunks_range geo) in
     λ gone. law number (record { fingerprint = word / 2 ^ 32; chunk = chunk_of_half (word % 2 ^ 32) }) below there steps on_way
-    ((slot_empty geo words place (slot_behind geo (home_in geo (word / 2 ^ 32)) steps)).1
-    (sym (slot_words_at geo words place (slot_behind geo (home_in geo (word / 2 ^ 32)) steps) (mod-lt (home_in geo (word / 2 ^ 32) + steps) some_ring)) ∙ gone))
+    ((slot_empty geo words place (slot_behind (2 * geo.chunks) (home_in geo (word / 2 ^ 32)) steps)).1
+    (sym (slot_words_at geo words place (slot_behind (2 * geo.chunks) (home_in geo (word / 2 ^ 32)) steps) (mod-lt (home_in geo (word / 2 ^ 32) + steps) some_ring)) ∙ gone))
 
 -- and back
 pub law_of_tier : (geo : Geo) (words : List ℕ) (place : ℕ) → KeepsLaw (ring_of geo) (slot_words geo words place) → KeepsSlotLaw geo words place
@@ -95,15 +95,15 @@ law_of_tier geo words place law number slot below is steps on_way =
     let parts = slot_parts geo words place number slot is in
     let some_ring : 0 < 2 * geo.chunks = omega (arith, chunks_range geo) in
     λ gone. law number (get_or words (slot_at geo place number) 0) below (slot_words_at geo words place number below) parts.0 steps
-    (subst (λ (f : ℕ). steps < steps_between geo (home_in geo f) number) parts.1 on_way)
+    (subst (λ (f : ℕ). steps < steps_between (2 * geo.chunks) (home_in geo f) number) parts.1 on_way)
     (slot_words_at geo words place _ (mod-lt (home_in geo (get_or words (slot_at geo place number) 0 / 2 ^ 32) + steps) some_ring)
-    ∙ (slot_empty geo words place _).0 (subst (λ (f : ℕ). slot_in geo words place (slot_behind geo (home_in geo f) steps) ≡ None) parts.1 gone))
+    ∙ (slot_empty geo words place _).0 (subst (λ (f : ℕ). slot_in geo words place (slot_behind (2 * geo.chunks) (home_in geo f) steps) ≡ None) parts.1 gone))
 
--- a slot's word is neither the lock word nor the change number
 -- the address of a slot, counted from that of the tier's first one
 pub slot_from_first : (geo : Geo) (place first slot : ℕ) → first ≡ slot_at geo place 0 → first + slot ≡ slot_at geo place slot
 unfolding slot_at
 slot_from_first geo place first slot first_is = omega arith
 
+-- a slot's word is neither the lock word nor the change number
 pub slot_inner : (geo : Geo) (place slot : ℕ) → 1 < slot_at geo place slot
 slot_inner geo place slot = omega (arith, slots_behind_head geo place slot, tier_behind_head geo place)

@@ -9,7 +9,7 @@ use Rattle.cm_lookup.specs.declared.hit.SlotParts.{SlotParts}
 
 -- the slot so many steps from the home of a fingerprint
 abbrev pub probe : Geo → ℕ → ℕ → ℕ
-probe geo fingerprint steps = slot_behind geo (home_in geo fingerprint) steps
+probe geo fingerprint steps = slot_behind (2 * geo.chunks) (home_in geo fingerprint) steps
 
 -- that slot is empty
 abbrev pub IsEmptyAt : Geo → List ℕ → ℕ → ℕ → ℕ → Type 0

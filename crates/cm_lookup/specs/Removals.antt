@@ -3,11 +3,12 @@ use Rattle.std.specs.Prelude.{ℕ, ◌≡◌, ◌≢◌, List, slice_set, None}
 use Rattle.cm_geo.specs.declared.geo.Geo.{Geo}
 use Rattle.cm_geo.specs.Addresses.{slot_at}
 use Rattle.cm_plain.specs.Slots.{slot_in}
+use Rattle.cm_plain.specs.Lawful.{KeepsSlotLaw}
 use Rattle.cm_words.specs.Memory.{FitsNotes, IsAllowed, MemSeen, origin}
 use Rattle.cm_words.specs.Effects.{Changes}
 use Rattle.cm_words.specs.Stores.{Leads, WordStore, after_stores}
 use Rattle.cm_lookup.specs.Shifts.{IsShift, NextStore, Shift}
-use Rattle.cm_lookup.specs.Tiers.{HasEmptySlot, KeepsSlotLaw, LostSlot, at_slots, ring_of, slot_words}
+use Rattle.cm_lookup.specs.Tiers.{HasEmptySlot, LostSlot, at_slots, ring_of, slot_words}
 
 -- the slot isn't empty, another one is, and the tier keeps the slot law
 pub record CanLose (geo : Geo) (words : List ℕ) (place slot : ℕ) : Type 0 where

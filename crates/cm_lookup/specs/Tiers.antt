@@ -1,13 +1,13 @@
 -- The slots of a tier as a ring (own).
 use Rattle.cm_words.specs.Stores.{WordStore, store_at}
-use Rattle.std.specs.Prelude.{ℕ, ◌≡◌, ◌+◌, ◌*◌, ◌/◌, ◌^◌, ◌<◌, List, ◌∷◌, map, None, Some}
+use Rattle.std.specs.Prelude.{ℕ, ◌≡◌, ◌+◌, ◌*◌, ◌/◌, ◌^◌, ◌<◌, List, ◌∷◌, map, None}
 use Rattle.std.specs.List.{range_with_len}
 use Rattle.std.specs.List.Sorted.{IsPermutation}
 use Rattle.cm_geo.specs.declared.geo.Geo.{Geo}
 use Rattle.cm_geo.specs.Addresses.{slot_at}
 use Rattle.cm_geo.specs.Hash.{home_in}
-use Rattle.cm_plain.specs.Slots.{Slot, slot_in, word_at}
-use Rattle.cm_plain.specs.Lawful.{IsReached}
+use Rattle.cm_plain.specs.Slots.{slot_in, word_at}
+use Rattle.cm_plain.specs.Lawful.{KeepsSlotLaw}
 use Rattle.cm_lookup.specs.Rings.{Ring, occupied_words}
 
 -- the ring: a word's home is that of its upper half, the fingerprint
@@ -29,11 +29,6 @@ slot_word fingerprint chunk = fingerprint * 2 ^ 32 + chunk + 1
 -- some slot of the tier is empty
 abbrev pub HasEmptySlot : Geo → List ℕ → ℕ → Type 0
 HasEmptySlot geo words place = (number : ℕ) × (number < 2 * geo.chunks) × (slot_in geo words place number ≡ None)
-
--- the slot law of a tier: each slot that isn't empty is reached from its home
-abbrev pub KeepsSlotLaw : Geo → List ℕ → ℕ → Type 0
-KeepsSlotLaw geo words place =
-    (number : ℕ) (slot : Slot) → number < 2 * geo.chunks → slot_in geo words place number ≡ Some slot → IsReached geo words place number slot
 
 -- the slot law holds, and the words of the slots, in any order, have lost just the one of this slot
 pub record LostSlot (geo : Geo) (before words : List ℕ) (place slot : ℕ) : Type 0 where

@@ -97,6 +97,12 @@ in_tier : (place place' tier chunk chunks chunk' chunks' : ℕ) → place ≡ pl
     → (place * tier + chunk + chunks ≤ place' * tier + chunk') ⊎ (place' * tier + chunk' + chunks' ≤ place * tier + chunk)
 in_tier place place' tier chunk chunks chunk' chunks' same apart = grind arith
 
+-- and back
+pub out_tier : (place place' tier chunk chunks chunk' chunks' : ℕ) → place ≡ place'
+    → (place * tier + chunk + chunks ≤ place' * tier + chunk') ⊎ (place' * tier + chunk' + chunks' ≤ place * tier + chunk)
+    → (chunk + chunks ≤ chunk') ⊎ (chunk' + chunks' ≤ chunk)
+out_tier place place' tier chunk chunks chunk' chunks' same apart = grind arith
+
 -- an entry that stands is apart from a free run
 free_apart : (geo : Geo) (entry other : Placed) → HasRun geo other → entry.chunk + chunks_of geo entry ≤ geo.chunks
     → meets geo entry.place entry.chunk (chunks_of geo entry) other ≡ false → IsApart geo other entry
@@ -179,7 +185,33 @@ longer geo old entry other place chunk length_is run inside e apart = elim (case
         → (at + n ≤ start) ⊎ (start + short ≤ at) → (at + n ≤ start') ⊎ (start' + long ≤ at)
     joined at n start short long start' e length_is nonzero behind apart = grind arith
 
-    out_tier : (place place' tier chunk chunks chunk' chunks' : ℕ) → place ≡ place'
-        → (place * tier + chunk + chunks ≤ place' * tier + chunk') ⊎ (place' * tier + chunk' + chunks' ≤ place * tier + chunk)
-        → (chunk + chunks ≤ chunk') ⊎ (chunk' + chunks' ≤ chunk)
-    out_tier place place' tier chunk chunks chunk' chunks' same apart = grind arith
+-- an entry begins in its tier
+pub begins_low : (geo : Geo) (placed : Placed) → HasRun geo placed → placed.chunk < geo.chunks
+begins_low geo placed run = omega (arith, run.inside, chunks_some geo placed)
+
+-- that two runs are apart says the same of the two turned round
+pub apart_symmetric : (geo : Geo) (one other : Placed) → IsApart geo one other → IsApart geo other one
+apart_symmetric geo one other (inl before) = inr before
+apart_symmetric geo one other (inr behind) = inl behind
+
+-- on numbers: runs that are apart don't meet
+far : (same : Bool) (chunk chunks chunk' chunks' : ℕ) → (chunk + chunks ≤ chunk') ⊎ (chunk' + chunks' ≤ chunk) → (same && (nat_lt chunk (chunk' + chunks') && nat_lt chunk' (chunk + chunks))) ≡ false
+far same chunk chunks chunk' chunks' apart = grind (arith, nat_tests)
+
+-- so does an entry whose run is apart
+pub apart_not_met : (geo : Geo) (placed other : Placed) → IsApart geo other placed → meets geo placed.place placed.chunk (chunks_of geo placed) other ≡ false
+apart_not_met geo placed other apart = elim (cases_eq other.place placed.place) [
+  | inl same ↦ far (other.place == placed.place) other.chunk (chunks_of geo other) placed.chunk (chunks_of geo placed)
+      (out_tier other.place placed.place geo.chunks other.chunk (chunks_of geo other) placed.chunk (chunks_of geo placed) same apart)
+  | inr differ ↦ (let away : (other.place == placed.place) ≡ false = elsewhere other.place placed.place differ in rw away refl)
+]
+  where
+    elsewhere : (a b : ℕ) → a ≢ b → (a == b) ≡ false
+    elsewhere a b ne = grind (arith, nat_tests)
+
+-- runs that are apart begin apart
+pub apart_starts : (geo : Geo) (placed other : Placed) → IsApart geo other placed → run_start geo other ≢ run_start geo placed
+apart_starts geo placed other apart = by_numbers (run_start geo other) (chunks_of geo other) (run_start geo placed) (chunks_of geo placed) (chunks_some geo other) (chunks_some geo placed) apart
+  where
+    by_numbers : (start chunks at more : ℕ) → 1 ≤ chunks → 1 ≤ more → (start + chunks ≤ at) ⊎ (at + more ≤ start) → start ≢ at
+    by_numbers start chunks at more h k apart e = grind arith

@@ -1,17 +1,17 @@
--- The lowest place outside a chain, and the chain with it.
-use Rattle.std.proofs.Common.{◌≡◌, ◌≢◌, ◌∙◌, ℕ, ◌+◌, ◌<◌, ◌≤◌, ◌==◌, Bool, true, false, List, [], ◌∷◌, ◌++◌, length, eqb, Some, refl, sym, subst, arith, zero, suc, inl, inr}
-use Rattle.std.specs.List.{list_any, position_or_len, range_with_len, slice_get, AllByRecursion}
+-- The places outside a chain, the lowest of them, and the chain with one of them.
+use Rattle.std.proofs.Common.{◌≡◌, ◌≢◌, ◌∙◌, ℕ, ◌+◌, ◌<◌, ◌≤◌, ◌==◌, ◌||◌, Bool, true, false, not, nat_le, All, List, [], ◌∷◌, ◌++◌, length, eqb, Some, refl, sym, subst, arith, zero, suc, inl, inr}
+use Rattle.std.specs.List.{AllByRecursion, AllPairs, list_any, position_or_len, range_with_len, slice_get}
 use Rattle.std.proofs.lemmas.Bool.{cases_Bool, cases_eq, not-false, not-true}
 use Rattle.std.proofs.lemmas.Bool.Decides.{nat_tests}
-use Rattle.std.proofs.lemmas.List.Elements.{All-push}
+use Rattle.std.proofs.lemmas.List.Elements.{All-from_recursion, All-push, recursion_from_All}
 use Rattle.std.proofs.lemmas.List.Quantifiers.{all_pairs_push}
 use Rattle.std.proofs.lemmas.List.{length_push}
 use Rattle.std.proofs.lemmas.Map.Steps.{le-length_from_below}
 use Rattle.cm_geo.specs.declared.geo.Geo.{Geo}
 use Rattle.cm_plain.specs.States.{IsChain}
 use Rattle.cm_plain.specs.Rooms.{is_unlinked, lowest_unlinked}
-use Rattle.cm_plain.proofs.Each.{each_fails, each_weaker}
-use Rattle.std.proofs.lemmas.List.Elements.{All-from_recursion}
+use Rattle.cm_plain.proofs.DistinctNumbers.{distinct_below}
+use Rattle.cm_plain.proofs.Each.{Pairs, each_fails, each_weaker, pairs_from_all}
 
 -- the first number of a range that passes, if one does
 pub record IsFirst (test : ℕ → Bool) (low count at : ℕ) : Type 0 where
@@ -96,3 +96,41 @@ chain_with geo chain place is short outside = record {
   inside = All-push (λ it. it < geo.tiers) chain place is.inside outside.below;
   apart = all_pairs_push (λ it other. it ≢ other) chain place is.apart (All-from_recursion (λ it. it ≢ place) chain (each_other chain place outside.unlinked));
 }
+
+-- a chain with a place outside it is short enough to be longer
+pub short_beside : (geo : Geo) (places : List ℕ) (place : ℕ) → All (λ it. it < geo.tiers) places → AllPairs (λ it other. it ≢ other) places → IsOutside geo places place → length places < geo.tiers
+short_beside geo places place inside apart outside =
+    let below : AllByRecursion (λ it. it < geo.tiers) (place ∷ places) = (outside.below, recursion_from_All (λ it. it < geo.tiers) places inside) in
+    let others : AllByRecursion (λ it. place ≢ it) places = each_weaker (λ it. it ≢ place) (λ it. place ≢ it) (λ it ne same. ne (sym same)) places (each_other places place outside.unlinked) in
+    let differ : Pairs (λ x y. x ≢ y) (place ∷ places) = (others, pairs_from_all (λ x y. x ≢ y) places apart) in
+    one_less (length places) geo.tiers (distinct_below (place ∷ places) geo.tiers below differ)
+  where
+    one_less : (n most : ℕ) → suc n ≤ most → n < most
+    one_less n most h = omega arith
+
+-- a link that leads somewhere leads to a place outside those that came before
+pub leads_outside : (geo : Geo) (places : List ℕ) (link : ℕ) → (nat_le geo.tiers link || list_any (λ earlier. earlier == link) places) ≡ false → IsOutside geo places link
+leads_outside geo places link e = record { below = low geo.tiers link (list_any (λ earlier. earlier == link) places) e; unlinked = out (nat_le geo.tiers link) (list_any (λ earlier. earlier == link) places) e }
+  where
+    low : (tiers link : ℕ) (met : Bool) → (nat_le tiers link || met) ≡ false → link < tiers
+    low tiers link met e = elim (cases_Bool (nat_le tiers link)) [
+      | inl above ↦ (let h = rw above at e in cc h)
+      | inr below ↦ grind (arith, nat_tests)
+    ]
+
+    out : (above met : Bool) → (above || met) ≡ false → not met ≡ true
+    out true met e = cc e
+    out false true e = cc e
+    out false false e = refl
+
+-- and one to a place outside is such a link
+pub outside_leads : (geo : Geo) (places : List ℕ) (link : ℕ) → IsOutside geo places link → (nat_le geo.tiers link || list_any (λ earlier. earlier == link) places) ≡ false
+outside_leads geo places link outside = both (nat_le geo.tiers link) (list_any (λ earlier. earlier == link) places) (low geo.tiers link outside.below) outside.unlinked
+  where
+    low : (tiers link : ℕ) → link < tiers → nat_le tiers link ≡ false
+    low tiers link h = grind (arith, nat_tests)
+
+    both : (above met : Bool) → above ≡ false → not met ≡ true → (above || met) ≡ false
+    both true met e f = e
+    both false true e f = cc f
+    both false false e f = refl

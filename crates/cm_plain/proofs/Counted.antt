@@ -11,7 +11,7 @@ use Rattle.cm_plain.proofs.Apart.{Rising, chunks_some}
 use Rattle.cm_plain.proofs.States.{each_placed, each_rising, place_low}
 
 -- entries whose runs rise from a chunk to another are no more than the chunks between
-counted : (geo : Geo) (low top : ℕ) (entries : List Placed) → low ≤ top → Pairs (Rising geo) entries → AllByRecursion (λ entry. low ≤ run_start geo entry) entries
+pub counted : (geo : Geo) (low top : ℕ) (entries : List Placed) → low ≤ top → Pairs (Rising geo) entries → AllByRecursion (λ entry. low ≤ run_start geo entry) entries
     → AllByRecursion (λ entry. run_end geo entry ≤ top) entries → low + length entries ≤ top
 counted geo low top [] within rising above below = omega arith
 counted geo low top (entry ∷ entries) within rising above below =

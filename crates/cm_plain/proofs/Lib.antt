@@ -1,12 +1,17 @@
 -- The lemmas of the crate.
 pub mod Ranges
 pub mod Each
+pub mod ListElements
+pub mod DistinctNumbers
 pub mod Keys
 pub mod Apart
 pub mod States
+pub mod StatePairs
 pub mod SegmentState
 pub mod Chains
 pub mod Placing
+pub mod EntrySets
+pub mod Planned
 pub mod Splits
 pub mod Stepping
 pub mod Least
@@ -16,4 +21,5 @@ pub mod Counted
 pub mod OutsideHead
 pub mod OneState
 pub mod Padding
+pub mod EntryWords
 pub mod RestingTorn

@@ -1,6 +1,5 @@
 -- Words tell at most one state.
-use Rattle.std.proofs.Common.{◌≡◌, ℕ, ◌+◌, ◌<◌, ◌≤◌, ◌⊎◌, List, [], ◌∷◌, Contains, length, get_or, arith, refl, ap, sym, subst, ◌∙◌, zero, suc, inl, inr}
-use Rattle.std.specs.List.{AllByRecursion}
+use Rattle.std.proofs.Common.{◌≡◌, ℕ, ◌+◌, ◌≤◌, List, [], ◌∷◌, Contains, arith, refl, ap, sym, subst, ◌∙◌, inl, inr}
 use Rattle.std.proofs.lemmas.List.Elements.{All-contains}
 use Rattle.std.proofs.lemmas.Option.{same_Some}
 use Rattle.cm_geo.specs.declared.geo.Geo.{Geo}
@@ -13,33 +12,11 @@ use Rattle.cm_plain.specs.Lawful.{Resting, Represents, TierRepresents}
 use Rattle.cm_plain.specs.Changes.{entry_at}
 use Rattle.cm_plain.proofs.Each.{Pairs}
 use Rattle.cm_plain.proofs.Apart.{Rising, chunks_some}
+use Rattle.cm_plain.proofs.ListElements.{In, in_from, in_has, in_to}
 use Rattle.cm_plain.proofs.Padding.{one_entry}
 use Rattle.cm_plain.proofs.OutsideHead.{resting_represents}
-use Rattle.cm_plain.proofs.States.{each_rising, is_placed}
+use Rattle.cm_plain.proofs.States.{each_rising, is_placed, same_state}
 use Rattle.cm_plain.specs.FoundChains.{chain_of}
-
--- an element of a list, by recursion
-abbrev pub In : {X : Type 0} → X → List X → Type 0
-In x [] = ⊥
-In x (y ∷ ys) = (x ≡ y) ⊎ In x ys
-
-pub in_from : {X : Type 0} (xs : List X) (x : X) → Contains xs x → In x xs
-in_from xs x c = at xs x c.0 c.1 c.2
-  where
-    at : {X : Type 0} (xs : List X) (x : X) (k : ℕ) → k < length xs → get_or xs k x ≡ x → In x xs
-    at [] x k below e = absurd (omega arith)
-    at (y ∷ ys) x zero below e = inl (sym e)
-    at (y ∷ ys) x (suc k) below e = inr (at ys x k (omega arith) e)
-
-pub in_to : {X : Type 0} (xs : List X) (x : X) → In x xs → Contains xs x
-in_to [] x h = absurd h
-in_to (y ∷ ys) x (inl e) = (0, omega arith, sym e)
-in_to (y ∷ ys) x (inr h) = let c = in_to ys x h in (suc c.0, omega (arith, c.1), c.2)
-
-pub in_has : {X : Type 0} (P : X → Type 0) (xs : List X) (x : X) → AllByRecursion P xs → In x xs → P x
-in_has P [] x h i = absurd i
-in_has P (y ∷ ys) x h (inl e) = subst P (sym e) h.0
-in_has P (y ∷ ys) x h (inr i) = in_has P ys x h.1 i
 
 -- of an entry and a later one, neither is among those behind the other
 first_of : (geo : Geo) (x y : Placed) (xs ys : List Placed) → Pairs (Rising geo) (x ∷ xs) → Pairs (Rising geo) (y ∷ ys) → In x (y ∷ ys) → In y (x ∷ xs) → x ≡ y
@@ -121,8 +98,3 @@ resting_once geo segment words one other rests rests' =
     (λ z i. in_from other.entries z (told_too geo segment words one other tells tells' z (in_to one.entries z i)))
     (λ z i. in_from one.entries z (told_too geo segment words other one tells' tells z (in_to other.entries z i))) in
     same_state one other chain entries
-  where
-    same_state : (one other : State) → one.chain ≡ other.chain → one.entries ≡ other.entries → one ≡ other
-    same_state one other chain entries =
-        let of : List ℕ → List Placed → State = λ chain entries. record { chain = chain; entries = entries } in
-        let e : of one.chain one.entries ≡ of other.chain other.entries = rw (chain, entries) refl in e

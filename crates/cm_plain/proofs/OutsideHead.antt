@@ -1,7 +1,7 @@
 -- Laws of how words stand for a state: they don't depend on the first two words of a segment, the lock word and the change number. Torn
 -- words depend on none of the first four.
 use Rattle.std.proofs.Common.{◌≡◌, ◌≢◌, ℕ, ◌+◌, ◌/◌, ◌<◌, ◌≤◌, List, [], ◌∷◌, get_or, drop, slice_set, arith, length, length-set, refl, ap, sym, ◌∙◌, get_or-set_other, zero, suc, inl, inr}
-use Rattle.std.proofs.lemmas.Grind.{common_steps}
+use Rattle.std.proofs.lemmas.List.{drop-set-lt}
 use Rattle.std.proofs.lemmas.List.Elements.{All-weaker}
 use Rattle.cm_geo.specs.declared.geo.Geo.{Geo}
 use Rattle.cm_geo.specs.Addresses.{bits_at, chunk_at, slot_at, tier_at, words_in_segment}
@@ -29,12 +29,10 @@ link_same geo words at word place low = behind words at word _ (omega (arith, ti
 bits_same : (geo : Geo) (words : List ℕ) (at word place number : ℕ) → at < 4 → get_or (slice_set words at word) (bits_at geo place number) 0 ≡ get_or words (bits_at geo place number) 0
 bits_same geo words at word place number low = behind words at word _ (omega (arith, tier_behind_head geo place, bits_behind_head geo place number))
 
-slot_same : (geo : Geo) (words : List ℕ) (at word place slot : ℕ) → at < 4 → slot_in geo (slice_set words at word) place slot ≡ slot_in geo words place slot
+-- a slot is the same after a store in the segment's head
+pub slot_same : (geo : Geo) (words : List ℕ) (at word place slot : ℕ) → at < 4 → slot_in geo (slice_set words at word) place slot ≡ slot_in geo words place slot
 unfolding slot_in
 slot_same geo words at word place slot low = ap slot_of_word (behind words at word (slot_at geo place slot) (omega (arith, tier_behind_head geo place, slots_behind_head geo place slot)))
-
-drop_same : (words : List ℕ) (at word n : ℕ) → at < n → drop n (slice_set words at word) ≡ drop n words
-drop_same words at word n low = grind (arith, common_steps)
 
 reading_same : (geo : Geo) (words : List ℕ) (at word place chunk : ℕ) → at < 4 → reading_at geo (slice_set words at word) place chunk ≡ reading_at geo words place chunk
 unfolding reading_at
@@ -42,7 +40,7 @@ reading_same geo words at word place chunk low =
     let start : 4 ≤ chunk_at geo place chunk = omega (arith, tier_behind_head geo place, chunks_behind_head geo place chunk) in
     let head = behind words at word (chunk_at geo place chunk) (omega arith) in
     let stored_checksum = behind words at word (chunk_at geo place chunk + 1) (omega arith) in
-    let all : (from : ℕ) → drop (chunk_at geo place chunk + 2 + from) (slice_set words at word) ≡ drop (chunk_at geo place chunk + 2 + from) words = λ from. drop_same words at word _ (omega arith) in
+    let all : (from : ℕ) → drop (chunk_at geo place chunk + 2 + from) (slice_set words at word) ≡ drop (chunk_at geo place chunk + 2 + from) words = λ from. drop-set-lt _ words at word (omega arith) in
     simp (head, stored_checksum, all) refl
 
 linked_from_same : (links : ℕ) (geo : Geo) (words : List ℕ) (at word : ℕ) (places : List ℕ) (place : ℕ) → at < 4 → chain_from links geo (slice_set words at word) places place ≡ chain_from links geo words places place
@@ -133,7 +131,7 @@ between_same geo words at word old new low b =
     let start : 4 ≤ chunk_at geo old.place old.chunk = omega (arith, tier_behind_head geo old.place, chunks_behind_head geo old.place old.chunk) in
     let head = behind words at word (chunk_at geo old.place old.chunk) (omega arith) in
     let stored_checksum = behind words at word (chunk_at geo old.place old.chunk + 1) (omega arith) in
-    let rest = drop_same words at word (chunk_at geo old.place old.chunk + 2 + 0) (omega arith) in
+    let rest = drop-set-lt (chunk_at geo old.place old.chunk + 2 + 0) words at word (omega arith) in
     record {
       head = rw head b.head;
       key = rw rest b.key;

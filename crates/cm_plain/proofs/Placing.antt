@@ -1,5 +1,5 @@
 -- Placing a value where there is room leads from a state to a state.
-use Rattle.std.proofs.Common.{◌≡◌, ◌≢◌, ℕ, ◌+◌, ◌-◌, ◌<◌, ◌≤◌, Bool, true, false, not, List, [], ◌∷◌, ◌++◌, length, filter, nat_lt, nat_le, All, Contains, Option, Some, None, refl, sym, subst, arith, suc, inl, inr, ◌⊎◌}
+use Rattle.std.proofs.Common.{◌≡◌, ◌≢◌, ℕ, ◌+◌, ◌-◌, ◌<◌, ◌≤◌, Bool, true, false, not, List, [], ◌∷◌, ◌++◌, length, filter, nat_lt, nat_le, All, Contains, Option, Some, None, refl, sym, subst, arith, inl, inr}
 use Rattle.std.specs.List.{AllByRecursion, AllPairs, range_with_len}
 use Rattle.std.specs.Option.{option_or}
 use Rattle.std.specs.Str.{bytes_eq}
@@ -19,8 +19,9 @@ use Rattle.cm_plain.specs.States.{HasRun, IsChain, IsPlaced, IsState, State, chu
 use Rattle.cm_plain.specs.Rooms.{can_stay, first_fit, fit_among, is_free, least_free, lowest_unlinked, meets, room_apart, room_beside, room_for, spot_at, spot_in}
 use Rattle.cm_plain.specs.Changes.{entry_at, with_entry, without}
 use Rattle.cm_plain.proofs.Each.{Pairs, across_tests, all_from_pairs, each_append, each_both, each_filter, each_kept, each_weaker, found_has, found_passes, pairs_append, pairs_kept}
-use Rattle.cm_plain.proofs.Apart.{IsApart, Rising, apart_places, begins_before, begins_behind, chunks_some, free_run, fresh_apart, longer, others_apart, rising_with, shorter}
+use Rattle.cm_plain.proofs.Apart.{IsApart, Rising, apart_places, apart_starts, begins_before, begins_behind, free_run, fresh_apart, longer, others_apart, rising_with, shorter}
 use Rattle.cm_plain.proofs.Keys.{keys_apart}
+use Rattle.cm_plain.proofs.ListElements.{contains_more}
 use Rattle.cm_plain.proofs.States.{Differs, each_differs, each_placed, each_rising, each_run}
 use Rattle.cm_plain.proofs.Chains.{IsOutside, chain_with, each_other, lowest_outside}
 
@@ -40,10 +41,6 @@ chain_for _ chain = chain
 pub record IsFit (geo : Geo) (entries : List Placed) (chunks : ℕ) (places : List ℕ) (spot : Spot) : Type 0 where
   pub among : Contains places spot.place
   pub free : is_free geo entries spot.place spot.chunk chunks ≡ true
-
--- a longer list of places has what the shorter one has
-contains_more : (place other : ℕ) (places : List ℕ) → Contains places place → Contains (other ∷ places) place
-contains_more place other places c = (suc c.0, omega (arith, c.1), c.2)
 
 -- the first fit among places, by whether the first of them has room
 by_least : (geo : Geo) (entries : List Placed) (chunks place : ℕ) (places : List ℕ) (spot : Spot)
@@ -251,10 +248,7 @@ starts_apart geo segment state key value spot is fits room room_is at =
     let goes = goes_in geo segment state key value spot is fits room room_is at in
     All-from_recursion (λ other. run_start geo other ≢ run_start geo entry) (without key state.entries)
     (each_weaker (λ other. IsApart geo other entry) (λ other. run_start geo other ≢ run_start geo entry)
-    (λ other h. apart_starts (run_start geo other) (chunks_of geo other) (run_start geo entry) (chunks_of geo entry) (chunks_some geo other) (chunks_some geo entry) h) (without key state.entries) goes.apart)
-  where
-    apart_starts : (start chunks at more : ℕ) → 1 ≤ chunks → 1 ≤ more → (start + chunks ≤ at) ⊎ (at + more ≤ start) → start ≢ at
-    apart_starts start chunks at more h k apart e = grind arith
+    (λ other h. apart_starts geo entry other h) (without key state.entries) goes.apart)
 
 -- the runs of the others rise
 others_rising : {geo : Geo} {segment : ℕ} {state : State} (key : List ℕ) → IsState geo segment state → Pairs (Rising geo) (without key state.entries)

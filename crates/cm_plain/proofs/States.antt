@@ -1,5 +1,5 @@
 -- What a state says of its entries.
-use Rattle.std.proofs.Common.{◌≢◌, ℕ, ◌<◌, List, Contains}
+use Rattle.std.proofs.Common.{◌≡◌, ◌≢◌, ℕ, ◌<◌, List, Contains, refl}
 use Rattle.std.specs.List.{AllByRecursion}
 use Rattle.std.proofs.lemmas.List.Elements.{All-contains, recursion_from_All}
 use Rattle.cm_geo.specs.declared.geo.Geo.{Geo}
@@ -35,3 +35,9 @@ each_differs {geo} {segment} {state} is = pairs_from_all Differs state.entries i
 -- a linked place is one of the geometry's
 pub place_low : {geo : Geo} {chain : List ℕ} → IsChain geo chain → (place : ℕ) → Contains chain place → place < geo.tiers
 place_low {geo} {chain} is place chained = All-contains (λ it. it < geo.tiers) chain place is.inside chained
+
+-- states with one chain and the same entries are one
+pub same_state : (one other : State) → one.chain ≡ other.chain → one.entries ≡ other.entries → one ≡ other
+same_state one other chain entries =
+    let of : List ℕ → List Placed → State = λ chain entries. record { chain = chain; entries = entries } in
+    let e : of one.chain one.entries ≡ of other.chain other.entries = rw (chain, entries) refl in e

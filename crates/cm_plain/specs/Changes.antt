@@ -98,10 +98,14 @@ with_entry geo entry entries =
 abbrev pub entry_at : List ℕ → List ℕ → ℕ → ℕ → Placed
 entry_at key value place chunk = record { place = place; chunk = chunk; key = key; value = value }
 
+-- the entry that a change places in a run
+abbrev pub new_entry : Change → Run → Placed
+new_entry change run = entry_at change.key change.value run.place run.chunk
+
 -- the entries after a change, from those of other keys
 abbrev pub entries_after : Geo → Change → Option Run → List Placed → List Placed
 entries_after geo change None others = others
-entries_after geo change (Some run) others = with_entry geo (entry_at change.key change.value run.place run.chunk) others
+entries_after geo change (Some run) others = with_entry geo (new_entry change run) others
 
 -- the chain after a change
 abbrev pub chain_after : Bool → Option Run → List ℕ → List ℕ

@@ -19,6 +19,10 @@ pub record Call : Type 0 where
 abbrev pub changes : Call → Bool
 changes call = is_change call.receipt.reply
 
+-- how many calls did
+abbrev pub change_count : List Call → ℕ
+change_count calls = length (filter changes calls)
+
 -- the grant of a step: no for want of a further tier, else yes
 abbrev pub granted : Reply → Bool
 granted reply.FullSpent = false
@@ -48,10 +52,11 @@ KeepsOrder earlier later =
     → (earlier.receipt.number ≤ later.receipt.number) × (changes later ≡ true → earlier.receipt.number < later.receipt.number)
 
 -- The calls of a segment, in order of line and part for each caller, are a legal history that begins with a state after so many changes.
--- `states` are the states of the history: `states 0` is the first, and `states i` the one after i more changes.
-pub record Legal (geo : Geo) (segment : ℕ) (first : State) (before : ℕ) (states : ℕ → State) (calls : List Call) : Type 0 where
+-- `states` are the states of the history: `states 0` is the first, and `states i` the one after i more changes. A call that changes nothing
+-- answers from a state after at most `most` more changes. The calls lead to as many as they change; who allows more says what the next state is.
+pub record Legal (geo : Geo) (segment : ℕ) (first : State) (before : ℕ) (states : ℕ → State) (most : ℕ) (calls : List Call) : Type 0 where
   -- the changing calls have the numbers that follow, each once
-  pub numbers : IsPermutation (range_with_len (before + 1) (length (filter changes calls))) (map (λ call. call.receipt.number) (filter changes calls))
+  pub numbers : IsPermutation (range_with_len (before + 1) (change_count calls)) (map (λ call. call.receipt.number) (filter changes calls))
   pub begins : states 0 ≡ first
-  pub steps : All (λ call. IsIn geo segment before states (length (filter changes calls)) (changes call) call) calls
+  pub steps : All (λ call. IsIn geo segment before states most (changes call) call) calls
   pub in_order : AllPairs KeepsOrder calls

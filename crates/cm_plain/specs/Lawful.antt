@@ -1,6 +1,7 @@
 -- How the words of a segment stand for a state while no change is under way (own; the slot law is after Chronicle Map).
 use Rattle.std.specs.Prelude.{ℕ, ◌≡◌, ◌≢◌, ◌+◌, ◌-◌, ◌*◌, ◌/◌, ◌%◌, ◌^◌, ◌<◌, ◌≤◌, ◌==◌, ◌↔◌, false, List, length, filter, All, Contains, IsBitSet, Some, None}
 use Rattle.cm_geo.specs.declared.geo.Geo.{Geo}
+use Rattle.cm_geo.specs.declared.limits.TheConstants.{WORD_BITS}
 use Rattle.cm_geo.specs.Addresses.{bits_at, tier_at, words_in_segment}
 use Rattle.cm_geo.specs.Hash.{home_in}
 use Rattle.cm_plain.specs.declared.placed.Placed.{Placed}
@@ -26,19 +27,24 @@ pub record IsSlotOf (geo : Geo) (state : State) (place : ℕ) (slot : Slot) : Ty
   pub at : IsAt state place placed
   pub slot_is : slot ≡ slot_for geo placed.key placed.chunk
 
--- the steps from a slot to another, upwards and from the last to the first
-abbrev pub steps_between : Geo → ℕ → ℕ → ℕ
-steps_between geo from to = (to + 2 * geo.chunks - from) % (2 * geo.chunks)
+-- the steps from a slot to another, of so many slots, upwards and from the last to the first
+abbrev pub steps_between : ℕ → ℕ → ℕ → ℕ
+steps_between size from to = (to + size - from) % size
 
--- the slot so many steps behind one
-abbrev pub slot_behind : Geo → ℕ → ℕ → ℕ
-slot_behind geo from steps = (from + steps) % (2 * geo.chunks)
+-- the slot so many steps behind one, of so many slots
+abbrev pub slot_behind : ℕ → ℕ → ℕ → ℕ
+slot_behind size from steps = (from + steps) % size
 
 -- no slot from the home of a slot's fingerprint on to that slot is empty
 abbrev pub IsReached : Geo → List ℕ → ℕ → ℕ → Slot → Type 0
 IsReached geo words place number slot =
-    (steps : ℕ) → steps < steps_between geo (home_in geo slot.fingerprint) number
-    → slot_in geo words place (slot_behind geo (home_in geo slot.fingerprint) steps) ≢ None
+    (steps : ℕ) → steps < steps_between (2 * geo.chunks) (home_in geo slot.fingerprint) number
+    → slot_in geo words place (slot_behind (2 * geo.chunks) (home_in geo slot.fingerprint) steps) ≢ None
+
+-- the slot law of a tier: each slot that isn't empty is reached from its home
+abbrev pub KeepsSlotLaw : Geo → List ℕ → ℕ → Type 0
+KeepsSlotLaw geo words place =
+    (number : ℕ) (slot : Slot) → number < 2 * geo.chunks → slot_in geo words place number ≡ Some slot → IsReached geo words place number slot
 
 -- a chunk lies in the run of an entry at this place
 pub record IsTaken (geo : Geo) (state : State) (place chunk : ℕ) : Type 0 where
@@ -49,20 +55,22 @@ pub record IsTaken (geo : Geo) (state : State) (place chunk : ℕ) : Type 0 wher
 
 -- the bit of a chunk
 abbrev pub HasBit : Geo → List ℕ → ℕ → ℕ → Type 0
-HasBit geo words place chunk = IsBitSet (word_at words (bits_at geo place (chunk / 64))) (chunk % 64)
+HasBit geo words place chunk = IsBitSet (word_at words (bits_at geo place (chunk / WORD_BITS))) (chunk % WORD_BITS)
 
--- the words of a chained tier tell the state's entries there
+-- the bits of the tier at a place that are set are those of the chunks in runs
+abbrev pub BitsRepresent : Geo → List ℕ → State → ℕ → Type 0
+BitsRepresent geo words state place = (chunk : ℕ) → chunk < geo.chunks → (HasBit geo words place chunk ↔ IsTaken geo state place chunk)
+
+-- the words of a chained tier represent the state's entries there
 pub record TierRepresents (geo : Geo) (words : List ℕ) (state : State) (place : ℕ) : Type 0 where
   -- each slot that isn't empty is an entry's
   pub slots : (number : ℕ) (slot : Slot) → number < 2 * geo.chunks → slot_in geo words place number ≡ Some slot → IsSlotOf geo state place slot
-  -- the slot law
-  pub reached : (number : ℕ) (slot : Slot) → number < 2 * geo.chunks → slot_in geo words place number ≡ Some slot → IsReached geo words place number slot
-  -- the bits that are set are those of the chunks in runs
-  pub bits : (chunk : ℕ) → chunk < geo.chunks → (HasBit geo words place chunk ↔ IsTaken geo state place chunk)
+  pub reached : KeepsSlotLaw geo words place
+  pub bits : BitsRepresent geo words state place
   -- the number of entries
   pub count : word_at words (tier_at geo place + 1) ≡ length (filter (λ placed. placed.place == place) state.entries)
 
--- the words of a segment tell a state: its chain, its entries and nothing else
+-- the words of a segment represent a state: its chain, its entries and nothing else
 pub record Represents (geo : Geo) (segment : ℕ) (words : List ℕ) (state : State) : Type 0 where
   pub is_state : IsState geo segment state
   pub whole : (chain_of geo words).cut ≡ false

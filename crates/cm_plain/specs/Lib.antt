@@ -4,6 +4,7 @@ pub mod States
 pub mod Rooms
 pub mod Changes
 pub mod Plans
+pub mod Replies
 pub mod Steps
 pub mod History
 pub mod Segments

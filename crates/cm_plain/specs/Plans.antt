@@ -1,5 +1,6 @@
 -- The change that a plan of the program tells (own). A plan borrows its bytes; a change has lists.
 use Rattle.std.specs.Prelude.{◌≤◌, length}
+use Rattle.cm_geo.specs.declared.limits.TheConstants.{MAX_KEY_BYTES, MAX_VALUE_BYTES}
 use Rattle.cm_plain.specs.declared.op.Op.{Op}
 use Rattle.cm_plain.specs.declared.op.Op.TheVariants as op
 use Rattle.cm_plain.specs.declared.plan.Ask.{Ask}
@@ -32,21 +33,21 @@ plan_change plan = record {
   link = plan.link;
 }
 
--- keys and prefixes of an operation have at most 256 bytes, values at most 4096
+-- keys, prefixes and values of an operation are no longer than the longest key and the longest value
 abbrev pub IsShortOp : Op → Type 0
-IsShortOp (op.Put key value) = (length key ≤ 256) × (length value ≤ 4096)
-IsShortOp (op.Get key) = length key ≤ 256
-IsShortOp (op.PutIfAbsent key value) = (length key ≤ 256) × (length value ≤ 4096)
-IsShortOp (op.Replace key value) = (length key ≤ 256) × (length value ≤ 4096)
-IsShortOp (op.ReplaceIf key expected value) = (length key ≤ 256) × (length expected ≤ 4096) × (length value ≤ 4096)
-IsShortOp (op.Remove key) = length key ≤ 256
-IsShortOp (op.RemoveIf key expected) = (length key ≤ 256) × (length expected ≤ 4096)
+IsShortOp (op.Put key value) = (length key ≤ MAX_KEY_BYTES) × (length value ≤ MAX_VALUE_BYTES)
+IsShortOp (op.Get key) = length key ≤ MAX_KEY_BYTES
+IsShortOp (op.PutIfAbsent key value) = (length key ≤ MAX_KEY_BYTES) × (length value ≤ MAX_VALUE_BYTES)
+IsShortOp (op.Replace key value) = (length key ≤ MAX_KEY_BYTES) × (length value ≤ MAX_VALUE_BYTES)
+IsShortOp (op.ReplaceIf key expected value) = (length key ≤ MAX_KEY_BYTES) × (length expected ≤ MAX_VALUE_BYTES) × (length value ≤ MAX_VALUE_BYTES)
+IsShortOp (op.Remove key) = length key ≤ MAX_KEY_BYTES
+IsShortOp (op.RemoveIf key expected) = (length key ≤ MAX_KEY_BYTES) × (length expected ≤ MAX_VALUE_BYTES)
 IsShortOp (op.Count segment) = Unit {0}
 IsShortOp (op.List segment) = Unit {0}
-IsShortOp (op.Sweep segment prefix) = length prefix ≤ 256
+IsShortOp (op.Sweep segment prefix) = length prefix ≤ MAX_KEY_BYTES
 
--- keys and prefixes of a change and of its operation have at most 256 bytes, values at most 4096
+-- and so are those of a change and of its operation
 pub record IsShort (change : Change) : Type 0 where
-  pub key : length change.key ≤ 256
-  pub value : length change.value ≤ 4096
+  pub key : length change.key ≤ MAX_KEY_BYTES
+  pub value : length change.value ≤ MAX_VALUE_BYTES
   pub op : IsShortOp change.op

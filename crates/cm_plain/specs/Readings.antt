@@ -3,19 +3,19 @@ use Rattle.std.specs.Prelude.{ℕ, ◌≡◌, ◌+◌, ◌-◌, ◌*◌, ◌/◌
 use Rattle.std.specs.List.{list_all}
 use Rattle.std.specs.Int.{to_le_bytes, w64}
 use Rattle.cm_geo.specs.declared.geo.Geo.{Geo}
+use Rattle.cm_geo.specs.declared.limits.TheConstants.{MAX_KEY_BYTES, MAX_RUN_CHUNKS, MAX_VALUE_BYTES}
 use Rattle.cm_geo.specs.Addresses.{chunk_at}
 use Rattle.cm_geo.specs.Hash.{hash}
 use Rattle.cm_geo.specs.Need.{need, parts_for}
 use Rattle.cm_plain.specs.declared.placed.Placed.{Placed}
 use Rattle.cm_plain.specs.declared.reply.Pair.{Pair}
-use Rattle.cm_plain.specs.States.{pair_of}
 use Rattle.cm_plain.specs.Slots.{word_at}
 
 -- the bytes of words, 8 a word, the lowest first
 abbrev pub bytes_of : List ℕ → List ℕ
 bytes_of words = flat_map (to_le_bytes w64) words
 
--- bytes filled with zeros to whole words
+-- bytes with zeros behind them, up to whole words
 abbrev pub padded : List ℕ → List ℕ
 padded bytes = bytes ++ replicate (8 * parts_for 8 (length bytes) - length bytes) 0
 
@@ -44,12 +44,16 @@ value_bytes geo words place chunk head =
 -- the lengths may be stored, and the run lies in the tier
 abbrev pub lengths_fit : Geo → ℕ → ℕ → Bool
 lengths_fit geo chunk head =
-    nat_le 1 (key_len head) && (nat_le (key_len head) 256 && (nat_le (value_len head) 4096
-    && (nat_le (need geo (key_len head) (value_len head)) 64 && nat_le (chunk + need geo (key_len head) (value_len head)) geo.chunks)))
+    nat_le 1 (key_len head) && (nat_le (key_len head) MAX_KEY_BYTES && (nat_le (value_len head) MAX_VALUE_BYTES
+    && (nat_le (need geo (key_len head) (value_len head)) MAX_RUN_CHUNKS && nat_le (chunk + need geo (key_len head) (value_len head)) geo.chunks)))
 
 -- the checksum: the hash of the bytes of the first word, of the key's words and of the value's
 abbrev pub checksum : ℕ → List ℕ → List ℕ → ℕ
 checksum head key value = hash (to_le_bytes w64 head ++ key ++ value)
+
+-- the checksum of a key's entry with a value
+unfoldable pub entry_checksum : List ℕ → List ℕ → ℕ
+entry_checksum key value = checksum (head_of key value) (padded key) (padded value)
 
 -- the bytes behind so many are zero
 abbrev pub is_padded : ℕ → List ℕ → Bool
@@ -74,9 +78,13 @@ reading_at geo words place chunk =
     let head = word_at words (chunk_at geo place chunk) in
     reading_of geo chunk head (word_at words (chunk_at geo place chunk + 1)) (key_bytes geo words place chunk head) (value_bytes geo words place chunk head)
 
+-- an entry of this key and this value stands at a chunk
+abbrev pub HasEntry : Geo → List ℕ → ℕ → ℕ → List ℕ → List ℕ → Type 0
+HasEntry geo words place chunk key value = reading_at geo words place chunk ≡ entry (record { key = key; value = value })
+
 -- an entry stands where it is placed
 abbrev pub Stands : Geo → List ℕ → Placed → Type 0
-Stands geo words placed = reading_at geo words placed.place placed.chunk ≡ entry (pair_of placed)
+Stands geo words placed = HasEntry geo words placed.place placed.chunk placed.key placed.value
 
 -- the key's words stand at a chunk, whatever the first word tells
 abbrev pub HasKeyWords : Geo → List ℕ → ℕ → ℕ → List ℕ → Type 0

@@ -9,7 +9,7 @@ use Rattle.cm_plain.specs.declared.plan.PlanKind.TheVariants as kind
 use Rattle.cm_plain.specs.States.{State}
 use Rattle.cm_plain.specs.Changes.{Change, after}
 use Rattle.cm_plain.specs.Slots.{IsPointed, Slot, slot_for, slot_in, word_at}
-use Rattle.cm_plain.specs.Readings.{HasKeyWords, Stands, checksum, padded, head_of}
+use Rattle.cm_plain.specs.Readings.{HasKeyWords, Stands, entry_checksum, head_of}
 use Rattle.cm_plain.specs.FoundChains.{IsZero, chain_of}
 
 -- an entry of another key than the change's
@@ -49,7 +49,7 @@ pub record IsPointedInChain (geo : Geo) (words : List ℕ) (placed : Placed) : T
 pub record IsBetween (geo : Geo) (words : List ℕ) (old new : Placed) : Type 0 where
   pub head : (word_at words (chunk_at geo old.place old.chunk) ≡ head_of old.key old.value) ⊎ (word_at words (chunk_at geo old.place old.chunk) ≡ head_of new.key new.value)
   pub key : HasKeyWords geo words old.place old.chunk old.key
-  pub stored_checksum : (word_at words (chunk_at geo old.place old.chunk + 1) ≡ checksum (head_of old.key old.value) (padded old.key) (padded old.value)) ⊎ Stands geo words new
+  pub stored_checksum : (word_at words (chunk_at geo old.place old.chunk + 1) ≡ entry_checksum old.key old.value) ⊎ Stands geo words new
 
 -- the words lie between the state and the one that the change leads to
 pub record Torn (geo : Geo) (words : List ℕ) (state : State) (change : Change) : Type 0 where

@@ -4,6 +4,7 @@
 
 mod bytes;
 mod entries;
+mod heard;
 mod list_of;
 mod op;
 mod placed;
@@ -19,6 +20,7 @@ mod stop;
 mod tests;
 
 pub use bytes::Bytes;
+pub use heard::Heard;
 pub use list_of::ListOf;
 pub use op::Op;
 pub use placed::Placed;

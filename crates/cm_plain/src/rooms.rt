@@ -8,7 +8,7 @@ ghost use Rattle.cm_plain.specs.Rooms.{can_stay as can_stay_in, first_fit as fir
 
 use crate::placed::Placed;
 use crate::room::{Room, Spot};
-use cm_geo::Geo;
+use cm_geo::{Geo, MAX_RUN_CHUNKS};
 
 /// The entry of a key, if there is one.
 pub fn find_entry<'a>(entries: &'a [Placed], key: &[u8]) -> Option<&'a Placed>
@@ -61,7 +61,7 @@ fn is_free(geo: &Geo, entries: &[Placed], place: u32, chunk: u32, chunks: u32) -
 /// The least chunk at a place from which so many are free.
 fn least_free(geo: &Geo, entries: &[Placed], chunks: u32, place: u32) -> Option<u32>
     requires runs { All (HasRun geo.now) entries.now }
-    requires within_limit { chunks ≤ 64 }
+    requires within_limit { chunks ≤ MAX_RUN_CHUNKS }
     ensures { result ≡ least_free_in geo.now entries.now chunks place }
 {
     for chunk in 0..geo.chunks() {
@@ -75,7 +75,7 @@ fn least_free(geo: &Geo, entries: &[Placed], chunks: u32, place: u32) -> Option<
 /// The first tier of the chain with so many free chunks in a row, and the least such chunk there.
 fn first_fit(geo: &Geo, chain: &[u32], entries: &[Placed], chunks: u32) -> Option<Spot>
     requires runs { All (HasRun geo.now) entries.now }
-    requires within_limit { chunks ≤ 64 }
+    requires within_limit { chunks ≤ MAX_RUN_CHUNKS }
     ensures { result ≡ first_fit_in geo.now (record { chain = chain.now; entries = entries.now }) chunks }
 {
     for place in chain {
@@ -106,7 +106,7 @@ fn lowest_unlinked(geo: &Geo, chain: &[u32]) -> u32
 fn can_stay(geo: &Geo, entries: &[Placed], entry: &Placed, chunks: u32) -> bool
     requires runs { All (HasRun geo.now) entries.now }
     requires run { HasRun geo.now entry.now }
-    requires within_limit { chunks ≤ 64 }
+    requires within_limit { chunks ≤ MAX_RUN_CHUNKS }
     ensures { result ≡ can_stay_in geo.now entries.now entry.now chunks }
 {
     let had = chunks_of(geo, entry);
@@ -116,7 +116,7 @@ fn can_stay(geo: &Geo, entries: &[Placed], entry: &Placed, chunks: u32) -> bool
 /// Where a value of so many chunks goes, beside the key's old entry.
 pub fn room(geo: &Geo, chain: &[u32], entries: &[Placed], old: Option<&Placed>, chunks: u32) -> Room
     requires runs { All (HasRun geo.now) entries.now }
-    requires within_limit { chunks ≤ 64 }
+    requires within_limit { chunks ≤ MAX_RUN_CHUNKS }
     requires old_run { ForSome (option_copied old) (HasRun geo.now) }
     ensures { result ≡ room_beside geo.now (record { chain = chain.now; entries = entries.now }) (option_copied old.entry) chunks }
 {

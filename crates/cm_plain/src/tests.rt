@@ -6,7 +6,7 @@ ghost use Rattle.cm_geo.specs.Need.{Fits};
 ghost use Rattle.cm_plain.specs.Limits.{IsKey, KeepsLimits, segment_of};
 
 use crate::{Bytes, NoMemory, Op, PlainSegment, Reply};
-use cm_geo::{Geo, hash};
+use cm_geo::{Geo, MAX_KEY_BYTES, MAX_VALUE_BYTES, hash};
 use std::alloc::{AllocError, Global};
 use std::process::Abort;
 use std::test::Fail;
@@ -99,14 +99,20 @@ fn may_ask(geo: &Geo, op: &Op) -> bool
             key,
             expected,
             value,
-        } => is_here(geo, key) && fits(geo, key, value) && expected.as_slice().len() <= 4096,
+        } => is_here(geo, key)
+            && fits(geo, key, value)
+            && expected.as_slice().len() <= MAX_VALUE_BYTES as usize,
         Op::Get { key } | Op::Remove { key } => is_here(geo, key) && is_key(key),
         Op::RemoveIf { key, expected } => {
-            is_here(geo, key) && is_key(key) && expected.as_slice().len() <= 4096
+            is_here(geo, key)
+                && is_key(key)
+                && expected.as_slice().len() <= MAX_VALUE_BYTES as usize
         }
         Op::Count { segment } | Op::List { segment } => *segment == 0 && *segment < geo.segments(),
         Op::Sweep { segment, prefix } => {
-            *segment == 0 && *segment < geo.segments() && prefix.as_slice().len() <= 256
+            *segment == 0
+                && *segment < geo.segments()
+                && prefix.as_slice().len() <= MAX_KEY_BYTES as usize
         }
     }
 }
@@ -121,7 +127,7 @@ fn is_key(key: &Bytes) -> bool
     ensures { IsTrue result → IsKey key.now }
 {
     let len = key.as_slice().len();
-    1 <= len && len <= 256
+    1 <= len && len <= MAX_KEY_BYTES as usize
 }
 
 fn fits(geo: &Geo, key: &Bytes, value: &Bytes) -> bool
@@ -129,7 +135,9 @@ fn fits(geo: &Geo, key: &Bytes, value: &Bytes) -> bool
 {
     let key_len = key.as_slice().len();
     let value_len = value.as_slice().len();
-    key_len <= 256 && value_len <= 4096 && geo.fits(key_len as u32, value_len as u32)
+    key_len <= MAX_KEY_BYTES as usize
+        && value_len <= MAX_VALUE_BYTES as usize
+        && geo.fits(key_len as u32, value_len as u32)
 }
 
 /// The name of a reply, with what it tells.

@@ -1,38 +1,31 @@
 -- Whatever stands in the words of a segment, what is kept of it is a state.
-use Rattle.std.proofs.Common.{◌≡◌, ◌≢◌, ℕ, ◌+◌, ◌-◌, ◌*◌, ◌<◌, ◌≤◌, ◌==◌, ◌&&◌, Bool, true, false, List, [], ◌∷◌, length, get_or, nat_le, take, drop, Option, Some, None, refl, ap, sym, subst, ◌∙◌, arith, inl, inr}
+use Rattle.std.proofs.Common.{◌≡◌, ◌≢◌, ℕ, ◌+◌, ◌<◌, ◌≤◌, ◌==◌, Bool, true, false, List, [], ◌∷◌, length, nat_le, Option, Some, None, refl, sym, subst, ◌∙◌, arith, inl, inr}
 use Rattle.std.specs.List.{AllByRecursion, list_any}
 use Rattle.std.specs.Str.{bytes_eq}
 use Rattle.std.proofs.lemmas.Bool.{cases_Bool}
 use Rattle.std.proofs.lemmas.Bool.Decides.{eqb_tells, nat_tests}
-use Rattle.std.proofs.lemmas.List.{length-drop, length-take-le}
 use Rattle.std.proofs.lemmas.List.Elements.{All-from_recursion, recursion_from_All}
 use Rattle.std.proofs.lemmas.Slice.Eq.{bytes_eq-Decides}
 use Rattle.cm_geo.specs.declared.geo.Geo.{Geo}
-use Rattle.cm_geo.specs.Addresses.{chunk_at, words_in_segment}
+use Rattle.cm_geo.specs.Addresses.{words_in_segment}
 use Rattle.cm_geo.specs.Hash.{fingerprint_in, hash, segment_of_key}
-use Rattle.cm_geo.specs.Need.{Fits, need, parts_for}
-use Rattle.cm_geo.proofs.AddressOrder.{run_in_range}
-use Rattle.cm_geo.proofs.Ranges.{chunk_words_range}
 use Rattle.cm_plain.specs.declared.placed.Placed.{Placed}
-use Rattle.cm_plain.specs.States.{HasRun, IsPlaced, IsState, chunks_of, pair_of}
+use Rattle.cm_plain.specs.States.{HasRun, IsPlaced, IsState, chunks_of}
 use Rattle.cm_plain.specs.Rooms.{is_free, meets}
 use Rattle.cm_plain.specs.Changes.{entry_at}
-use Rattle.cm_plain.specs.Readings.{Reading, Stands, entry, key_bytes, key_len, reading_at, value_bytes, value_len, wrong_checksum, wrong_padding, wrong_lengths}
+use Rattle.cm_plain.specs.Readings.{Reading, Stands, entry, reading_at, wrong_checksum, wrong_padding, wrong_lengths}
 use Rattle.cm_plain.proofs.Apart.{Rising, fresh_apart, rising_with}
 use Rattle.cm_plain.proofs.Each.{Pairs, all_from_pairs, each_fails, each_weaker}
-use Rattle.cm_plain.proofs.Padding.{IsRead, bytes_len, is_read}
 use Rattle.cm_plain.proofs.Placing.{each_with, keys_with}
 use Rattle.cm_plain.proofs.States.{Differs}
-use Rattle.cm_plain.proofs.RestingTorn.{words_within}
-use Rattle.cm_plain.proofs.OneState.{In, in_has, in_to}
+use Rattle.cm_plain.proofs.EntryWords.{has_words}
+use Rattle.cm_plain.proofs.ListElements.{In, in_has, in_to, some_any}
 use Rattle.cm_recover.specs.declared.cause.Cause.TheVariants as cause
 use Rattle.cm_recover.specs.Occupied.{OccupiedSlot, occupied_slots}
 use Rattle.cm_recover.specs.Allowed.{allowed_places}
 use Rattle.cm_recover.specs.Judgements.{Judgement, is_dropped, is_kept, judgement, judgement_beside, judgement_in_tier, judgement_on_entry, judgement_on_reading}
 use Rattle.cm_recover.specs.KeptSlots.{KeptEntries, kept_in, kept_of, kept_state, kept_with}
 use Rattle.cm_recover.proofs.AnyChain.{allowed_chain}
-use Rattle.cm_recover.proofs.InPlaceWords.{value_size}
-use Rattle.cm_recover.proofs.Keeping.{some_any}
 
 -- an entry that is kept beside others
 record IsBeside (geo : Geo) (kept : List Placed) (placed it : Placed) : Type 0 where
@@ -112,50 +105,11 @@ slot_kept geo segment words places kept at it e = elim (cases_Bool (list_any (λ
     same : (a b : ℕ) → (a == b) ≡ true → a ≡ b
     same a b e = grind (arith, nat_tests)
 
--- the key's bytes are whole words, as many as the first word tells
-key_size : (geo : Geo) (words : List ℕ) (place chunk head : ℕ) → length words ≡ words_in_segment geo → place < geo.tiers → chunk + need geo (key_len head) (value_len head) ≤ geo.chunks
-    → length (key_bytes geo words place chunk head) ≡ 8 * parts_for 8 (key_len head)
-key_size geo words place chunk head length_is low inside =
-    let at : ℕ = chunk_at geo place chunk in
-    let pk : ℕ = parts_for 8 (key_len head) in
-    let pv : ℕ = parts_for 8 (value_len head) in
-    let chunk_words : 1 ≤ geo.chunk_words = omega (arith, (chunk_words_range geo).0) in
-    let range = run_in_range geo place chunk (need geo (key_len head) (value_len head)) low inside in
-    let enough = words_within (2 + parts_for 8 (key_len head) + parts_for 8 (value_len head)) geo.chunk_words chunk_words in
-    let room : at + (2 + pk + pv) ≤ length words = room_is at (2 + pk + pv) (need geo (key_len head) (value_len head)) geo.chunk_words (words_in_segment geo) (length words) enough range length_is in
-    bytes_len (take pk (drop (at + 2 + 0) words))
-    ∙ ap (λ (n : ℕ). 8 * n) (length-take-le pk (drop (at + 2 + 0) words) (behind at pk pv (length words) (drop (at + 2 + 0) words) (length-drop (at + 2 + 0) words) room))
-  where
-    room_is : (at count parts size range len : ℕ) → count ≤ parts * size → at + parts * size ≤ range → len ≡ range → at + count ≤ len
-    room_is at count parts size range len h k e = omega arith
-
-    behind : (at pk pv len : ℕ) (rest : List ℕ) → length rest ≡ len - (at + 2 + 0) → at + (2 + pk + pv) ≤ len → pk ≤ length rest
-    behind at pk pv len rest e room = omega arith
-
 -- an entry that is read has a run
 stands_run : (geo : Geo) (words : List ℕ) (placed : Placed) → length words ≡ words_in_segment geo → placed.place < geo.tiers → Stands geo words placed → HasRun geo placed
-unfolding reading_at
 stands_run geo words placed length_is low stands =
-    let at : ℕ = chunk_at geo placed.place placed.chunk in
-    let head : ℕ = get_or words at 0 in
-    let key : List ℕ = key_bytes geo words placed.place placed.chunk head in
-    let value : List ℕ = value_bytes geo words placed.place placed.chunk head in
-    let read : IsRead geo placed.chunk head (get_or words (at + 1) 0) key value (pair_of placed) = is_read geo placed.chunk head (get_or words (at + 1) 0) key value (pair_of placed) stands in
-    let fit = lengths_are (key_len head) (value_len head) (need geo (key_len head) (value_len head)) placed.chunk geo.chunks read.fit in
-    let key_length : length placed.key ≡ key_len head = ap (λ (l : List ℕ). length l) read.key_is
-    ∙ length-take-le (key_len head) key (whole_words (key_len head) (length key) (key_size geo words placed.place placed.chunk head length_is low fit.4)) in
-    let value_length : length placed.value ≡ value_len head = ap (λ (l : List ℕ). length l) read.value_is
-    ∙ length-take-le (value_len head) value (whole_words (value_len head) (length value) (value_size geo words placed.place placed.chunk head length_is low fit.4)) in
-    let fits : Fits geo (key_len head) (value_len head) = record { key_some = fit.0; key_short = fit.1; value_short = fit.2; few_chunks = fit.3 } in
-    record { fits = rw (key_length, value_length) fits; inside = rw (key_length, value_length) fit.4 }
-  where
-    lengths_are : (key value need chunk chunks : ℕ) → (nat_le 1 key && (nat_le key 256 && (nat_le value 4096 && (nat_le need 64 && nat_le (chunk + need) chunks)))) ≡ true
-        → (1 ≤ key) × (key ≤ 256) × (value ≤ 4096) × (need ≤ 64) × (chunk + need ≤ chunks)
-    lengths_are key value need chunk chunks e =
-        (grind (arith, nat_tests), grind (arith, nat_tests), grind (arith, nat_tests), grind (arith, nat_tests), grind (arith, nat_tests))
-
-    whole_words : (count len : ℕ) → len ≡ 8 * parts_for 8 count → count ≤ len
-    whole_words count len e = omega arith
+    let has = has_words geo words placed.place placed.chunk placed.key placed.value length_is low stands in
+    record { fits = has.fits; inside = has.inside }
 
 -- entries that are placed in tiers of a chain, in the order of their runs, with different keys
 record ArePlaced (geo : Geo) (segment : ℕ) (chain : List ℕ) (entries : List Placed) : Type 0 where

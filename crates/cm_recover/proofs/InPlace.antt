@@ -16,21 +16,23 @@ use Rattle.cm_plain.specs.States.{HasRun, IsPlaced, IsState, State, chunks_of, v
 use Rattle.cm_plain.specs.Changes.{Change, after, entry_at}
 use Rattle.cm_plain.specs.Steps.{Plans}
 use Rattle.cm_plain.specs.Slots.{slot_for, word_at}
-use Rattle.cm_plain.specs.Readings.{HasKeyWords, Stands, head_of, wrong_checksum, wrong_padding}
+use Rattle.cm_plain.specs.Readings.{HasKeyWords, Stands, entry_checksum, head_of, wrong_checksum, wrong_padding}
 use Rattle.cm_plain.specs.FoundChains.{chain_of}
 use Rattle.cm_plain.specs.Torn.{BeginsAt, IsBetween, Torn}
 use Rattle.cm_plain.proofs.Apart.{chunks_some, shorter}
-use Rattle.cm_plain.proofs.OneState.{In, in_from, in_has, in_to}
+use Rattle.cm_plain.proofs.EntrySets.{found_there}
+use Rattle.cm_plain.proofs.ListElements.{In, in_from, in_has, in_to}
+use Rattle.cm_plain.proofs.Planned.{StaysAt, new_at, old_at, stays_at}
+use Rattle.cm_plain.proofs.StatePairs.{placed_in, same_in}
+use Rattle.cm_plain.proofs.States.{each_differs}
 use Rattle.cm_recover.specs.declared.cause.Cause.TheVariants as cause
 use Rattle.cm_recover.specs.Occupied.{OccupiedSlot}
 use Rattle.cm_recover.specs.Judgements.{judgement}
-use Rattle.cm_recover.specs.Outcomes.{IsChangeOutcome, entry_checksum}
+use Rattle.cm_recover.specs.Outcomes.{IsChangeOutcome}
 use Rattle.cm_recover.proofs.InPlaceWords.{bad_filling, bad_sum, good, reads_key}
 use Rattle.cm_recover.proofs.Judging.{by_reading}
 use Rattle.cm_recover.proofs.Keeping.{IsJudged}
-use Rattle.cm_recover.proofs.Planned.{StaysAt, found_there, new_at, old_at, stays_at}
 use Rattle.cm_recover.proofs.Roles.{IsIts, IsOf, its_new, its_old, value_is}
-use Rattle.cm_recover.proofs.StatePairs.{differs_in, placed_in, same_in}
 use Rattle.cm_recover.proofs.Walking.{StandsIn}
 
 -- two lists of bytes are equal or not
@@ -208,7 +210,7 @@ has_both geo segment words state op change place chunk is plans torn in_place be
         → (stays.old.place ≡ place) × (stays.old.chunk ≡ chunk)
     position stays i key_is (inl h) =
         let old = old_at geo segment state op change place chunk plans h in
-        let same : stays.old ≡ old.placed = same_in state.entries stays.old old.placed (differs_in geo segment state is) i old.is_in (key_is ∙ sym old.key_is) in
+        let same : stays.old ≡ old.placed = same_in state.entries stays.old old.placed (each_differs is) i old.is_in (key_is ∙ sym old.key_is) in
         (ap (λ (p : Placed). p.place) same ∙ old.place_is, ap (λ (p : Placed). p.chunk) same ∙ old.chunk_is)
     position stays i key_is (inr h) = subst (λ (r : Option Run). BeginsAt r place chunk) stays.run_is h
 

@@ -1,32 +1,30 @@
 -- What is read where a value is replaced in place, while the first word and the key's words are those of an entry.
-use Rattle.std.proofs.Common.{◌≡◌, ℕ, ◌+◌, ◌-◌, ◌*◌, ◌/◌, ◌%◌, ◌^◌, ◌<◌, ◌≤◌, ◌&&◌, true, replicate, List, length, nat_le, take, drop, refl, ap, sym, subst, ◌∙◌, arith, inl, inr}
+use Rattle.std.proofs.Common.{◌≡◌, ℕ, ◌+◌, ◌-◌, ◌*◌, ◌/◌, ◌%◌, ◌^◌, ◌<◌, ◌≤◌, ◌&&◌, true, replicate, List, length, nat_le, take, refl, ap, sym, subst, ◌∙◌, arith, inl, inr}
 use Rattle.std.proofs.lemmas.Bool.{cases_Bool}
 use Rattle.std.proofs.lemmas.Bool.Decides.{eqb_tells, nat_tests}
-use Rattle.std.proofs.lemmas.List.{length-drop, length-take-le}
+use Rattle.std.proofs.lemmas.List.{length-take-le}
 use Rattle.std.proofs.Math.Seq.{take-append_seam}
 use Rattle.cm_geo.specs.declared.geo.Geo.{Geo}
+use Rattle.cm_geo.specs.declared.limits.TheConstants.{MAX_KEY_BYTES, MAX_RUN_CHUNKS, MAX_VALUE_BYTES}
 use Rattle.cm_geo.specs.Addresses.{chunk_at, words_in_segment}
 use Rattle.cm_geo.specs.Need.{Fits, need, parts_for}
-use Rattle.cm_geo.proofs.AddressOrder.{run_in_range}
-use Rattle.cm_geo.proofs.Ranges.{chunk_words_range}
 use Rattle.cm_plain.specs.Slots.{word_at}
-use Rattle.cm_plain.specs.Readings.{HasKeyWords, bytes_at, checksum, entry, padded, head_of, is_padded, key_bytes, key_len, lengths_fit, reading_at, reading_of, value_bytes, value_len, wrong_checksum, wrong_padding}
-use Rattle.cm_plain.proofs.Padding.{bytes_len, padded_is}
-use Rattle.cm_plain.proofs.RestingTorn.{words_within}
-use Rattle.cm_recover.specs.Outcomes.{entry_checksum}
+use Rattle.cm_plain.specs.Readings.{HasKeyWords, bytes_at, checksum, entry, entry_checksum, padded, head_of, is_padded, key_bytes, key_len, lengths_fit, reading_at, reading_of, value_bytes, value_len, wrong_checksum, wrong_padding}
+use Rattle.cm_plain.proofs.Padding.{padded_is, whole_words}
+use Rattle.cm_plain.proofs.EntryWords.{checksum_same, value_size}
 
 -- what the first word tells
 record TellsLengths (head : ℕ) (key value : List ℕ) : Type 0 where
   key_is : key_len head ≡ length key
   value_is : value_len head ≡ length value
 
-tells_lengths : (head : ℕ) (key value : List ℕ) → length key ≤ 256 → head ≡ head_of key value → TellsLengths head key value
+tells_lengths : (head : ℕ) (key value : List ℕ) → length key ≤ MAX_KEY_BYTES → head ≡ head_of key value → TellsLengths head key value
 tells_lengths head key value short e = record { key_is = low head (length key) (length value) short e; value_is = high head (length key) (length value) short e }
   where
-    low : (head key value : ℕ) → key ≤ 256 → head ≡ key + 2 ^ 32 * value → head % 2 ^ 32 ≡ key
+    low : (head key value : ℕ) → key ≤ MAX_KEY_BYTES → head ≡ key + 2 ^ 32 * value → head % 2 ^ 32 ≡ key
     low head key value h e = omega arith
 
-    high : (head key value : ℕ) → key ≤ 256 → head ≡ key + 2 ^ 32 * value → head / 2 ^ 32 ≡ value
+    high : (head key value : ℕ) → key ≤ MAX_KEY_BYTES → head ≡ key + 2 ^ 32 * value → head / 2 ^ 32 ≡ value
     high head key value h e = omega arith
 
 -- such lengths may be stored
@@ -35,8 +33,8 @@ fits_there : (geo : Geo) (chunk head : ℕ) (key value : List ℕ) → TellsLeng
 fits_there geo chunk head key value tells fits inside =
     rw (tells.key_is, tells.value_is) (all_of (length key) (length value) (need geo (length key) (length value)) chunk geo.chunks fits.key_some fits.key_short fits.value_short fits.few_chunks inside)
   where
-    all_of : (key value need chunk chunks : ℕ) → 1 ≤ key → key ≤ 256 → value ≤ 4096 → need ≤ 64 → chunk + need ≤ chunks
-        → (nat_le 1 key && (nat_le key 256 && (nat_le value 4096 && (nat_le need 64 && nat_le (chunk + need) chunks)))) ≡ true
+    all_of : (key value need chunk chunks : ℕ) → 1 ≤ key → key ≤ MAX_KEY_BYTES → value ≤ MAX_VALUE_BYTES → need ≤ MAX_RUN_CHUNKS → chunk + need ≤ chunks
+        → (nat_le 1 key && (nat_le key MAX_KEY_BYTES && (nat_le value MAX_VALUE_BYTES && (nat_le need MAX_RUN_CHUNKS && nat_le (chunk + need) chunks)))) ≡ true
     all_of key value need chunk chunks a b c d e = grind (arith, nat_tests)
 
 -- what is read there: a wrong checksum or filling, or the key and a value as long as the first word tells, with the checksum that stands there
@@ -45,26 +43,6 @@ pub data ReadsKey (geo : Geo) (words : List ℕ) (place chunk : ℕ) (key value 
   bad_filling : reading_at geo words place chunk ≡ wrong_padding → ReadsKey geo words place chunk key value
   good : (it : List ℕ) → reading_at geo words place chunk ≡ entry (record { key = key; value = it }) → length it ≡ length value
       → entry_checksum key it ≡ word_at words (chunk_at geo place chunk + 1) → ReadsKey geo words place chunk key value
-
--- the value's bytes are whole words, as many as the first word tells
-pub value_size : (geo : Geo) (words : List ℕ) (place chunk head : ℕ) → length words ≡ words_in_segment geo → place < geo.tiers → chunk + need geo (key_len head) (value_len head) ≤ geo.chunks
-    → length (value_bytes geo words place chunk head) ≡ 8 * parts_for 8 (value_len head)
-value_size geo words place chunk head length_is low inside =
-    let at : ℕ = chunk_at geo place chunk in
-    let pk : ℕ = parts_for 8 (key_len head) in
-    let pv : ℕ = parts_for 8 (value_len head) in
-    let chunk_words : 1 ≤ geo.chunk_words = omega (arith, (chunk_words_range geo).0) in
-    let range = run_in_range geo place chunk (need geo (key_len head) (value_len head)) low inside in
-    let enough = words_within (2 + parts_for 8 (key_len head) + parts_for 8 (value_len head)) geo.chunk_words chunk_words in
-    let room : at + (2 + pk + pv) ≤ length words = room_is at (2 + pk + pv) (need geo (key_len head) (value_len head)) geo.chunk_words (words_in_segment geo) (length words) enough range length_is in
-    bytes_len (take pv (drop (at + 2 + pk) words))
-    ∙ ap (λ (n : ℕ). 8 * n) (length-take-le pv (drop (at + 2 + pk) words) (behind_key at pk pv (length words) (drop (at + 2 + pk) words) (length-drop (at + 2 + pk) words) room))
-  where
-    room_is : (at count parts size range len : ℕ) → count ≤ parts * size → at + parts * size ≤ range → len ≡ range → at + count ≤ len
-    room_is at count parts size range len h k e = omega arith
-
-    behind_key : (at pk pv len : ℕ) (rest : List ℕ) → length rest ≡ len - (at + 2 + pk) → at + (2 + pk + pv) ≤ len → pv ≤ length rest
-    behind_key at pk pv len rest e room = omega arith
 
 -- the tests of the checksum and of the filling, one after the other
 data Tested (geo : Geo) (chunk head stored_checksum : ℕ) (key value : List ℕ) : Type 0 where
@@ -90,20 +68,15 @@ good_there : (geo : Geo) (words : List ℕ) (place chunk head : ℕ) (key value 
     → key_found ≡ padded key → length value_found ≡ 8 * parts_for 8 (value_len head) → is_padded (value_len head) value_found ≡ true
     → reading_at geo words place chunk ≡ entry (record { key = take (key_len head) key_found; value = take (value_len head) value_found })
     → checksum head key_found value_found ≡ word_at words (chunk_at geo place chunk + 1) → ReadsKey geo words place chunk key value
+unfolding entry_checksum
 good_there geo words place chunk head key value key_found value_found tells head_is key_words size value_filled reads sum_is =
     let it : List ℕ = take (value_len head) value_found in
     let key_is : take (key_len head) key_found ≡ key = rw (key_words, tells.key_is) (take-append_seam key (replicate (8 * parts_for 8 (length key) - length key) 0)) in
     let long : length it ≡ length value = length-take-le (value_len head) value_found (whole_words (value_len head) (length value_found) size) ∙ tells.value_is in
     let value_words : value_found ≡ padded it = padded_is (value_len head) value_found size value_filled in
     let head_it : head ≡ head_of key it = head_is ∙ ap (λ (n : ℕ). length key + 2 ^ 32 * n) (sym long) in
-    let stored_checksum : entry_checksum key it ≡ checksum head key_found value_found = same_sum (head_of key it) head (padded key) key_found (padded it) value_found (sym head_it) (sym key_words) (sym value_words) in
+    let stored_checksum : entry_checksum key it ≡ checksum head key_found value_found = checksum_same (head_of key it) head (padded key) key_found (padded it) value_found (sym head_it) (sym key_words) (sym value_words) in
     good it (subst (λ (k : List ℕ). reading_at geo words place chunk ≡ entry (record { key = k; value = it })) key_is reads) long (stored_checksum ∙ sum_is)
-  where
-    whole_words : (count len : ℕ) → len ≡ 8 * parts_for 8 count → count ≤ len
-    whole_words count len e = omega arith
-
-    same_sum : (head head' : ℕ) (key key' value value' : List ℕ) → head ≡ head' → key ≡ key' → value ≡ value' → checksum head key value ≡ checksum head' key' value'
-    same_sum head head' key key' value value' e f g = rw (e, f, g) refl
 
 -- what is read where the first word tells the lengths of a key and a value, and the key's words are there
 pub reads_key : (geo : Geo) (words : List ℕ) (place chunk : ℕ) (key value : List ℕ) → length words ≡ words_in_segment geo → place < geo.tiers → Fits geo (length key) (length value)

@@ -8,7 +8,7 @@ use Rattle.cm_plain.specs.declared.placed.Placed.{Placed}
 use Rattle.cm_plain.specs.Slots.{slot_for}
 use Rattle.cm_plain.specs.Readings.{Reading, Stands, entry, reading_at}
 use Rattle.cm_plain.specs.States.{pair_of}
-use Rattle.cm_plain.proofs.OneState.{In}
+use Rattle.cm_plain.proofs.ListElements.{In}
 use Rattle.cm_recover.specs.Occupied.{OccupiedSlot}
 use Rattle.cm_recover.specs.Judgements.{judgement, judgement_beside, judgement_on_reading}
 

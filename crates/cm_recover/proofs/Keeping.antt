@@ -1,85 +1,25 @@
 -- What is kept of slots whose entries have runs apart: one entry of each key that a slot reads, and no run is in the way of another.
-use Rattle.std.proofs.Common.{◌≡◌, ◌≢◌, ℕ, ◌+◌, ◌*◌, ◌≤◌, ◌==◌, ◌&&◌, ◌⊎◌, Bool, true, false, List, [], ◌∷◌, filter, nat_lt, refl, sym, subst, ◌∙◌, arith, inl, inr}
+use Rattle.std.proofs.Common.{◌≡◌, ◌≢◌, ℕ, ◌⊎◌, Bool, true, false, List, [], ◌∷◌, refl, sym, subst, ◌∙◌, inl, inr}
 use Rattle.std.specs.List.{AllByRecursion, fold, list_any}
 use Rattle.std.specs.Str.{bytes_eq}
-use Rattle.std.proofs.lemmas.Bool.{cases_Bool, cases_eq}
-use Rattle.std.proofs.lemmas.Bool.Decides.{nat_tests}
+use Rattle.std.proofs.lemmas.Bool.{cases_Bool}
 use Rattle.std.proofs.lemmas.Slice.Eq.{bytes_eq-Decides}
 use Rattle.cm_geo.specs.declared.geo.Geo.{Geo}
 use Rattle.cm_plain.specs.declared.placed.Placed.{Placed}
-use Rattle.cm_plain.specs.States.{chunks_of, run_start}
+use Rattle.cm_plain.specs.States.{chunks_of}
 use Rattle.cm_plain.specs.Rooms.{meets}
-use Rattle.cm_plain.specs.Changes.{with_entry}
 use Rattle.cm_plain.proofs.Each.{Pairs, each_append, each_both, each_fails, each_weaker}
-use Rattle.cm_plain.proofs.Apart.{IsApart, Rising, chunks_some, rising_with}
+use Rattle.cm_plain.proofs.Apart.{IsApart, Rising, apart_not_met, apart_starts, rising_with}
 use Rattle.cm_plain.proofs.Placing.{each_with, keys_with}
 use Rattle.cm_plain.proofs.States.{Differs}
-use Rattle.cm_plain.proofs.OneState.{In, in_has}
-use Rattle.cm_plain.proofs.RestingTorn.{in_kept_to}
+use Rattle.cm_plain.proofs.ListElements.{In, in_has, none_any, some_any}
+use Rattle.cm_plain.proofs.EntrySets.{in_with, stays_with}
 use Rattle.cm_recover.specs.declared.cause.Cause.{Cause}
 use Rattle.cm_recover.specs.declared.cause.Cause.TheVariants as cause
 use Rattle.cm_recover.specs.Occupied.{OccupiedSlot}
 use Rattle.cm_recover.specs.Judgements.{Judgement, is_dropped, is_kept, judgement_beside}
 use Rattle.cm_recover.specs.KeptSlots.{KeptEntries, kept_with}
 use Rattle.cm_recover.specs.Laws.{IsCauseOfTorn}
-use Rattle.cm_recover.proofs.ListElements.{in_left, in_right}
-
--- on numbers: runs that are apart don't meet
-far : (same : Bool) (chunk chunks chunk' chunks' : ℕ) → (chunk + chunks ≤ chunk') ⊎ (chunk' + chunks' ≤ chunk) → (same && (nat_lt chunk (chunk' + chunks') && nat_lt chunk' (chunk + chunks))) ≡ false
-far same chunk chunks chunk' chunks' apart = grind (arith, nat_tests)
-
--- runs that are apart in one tier, counted over all places
-out_tier : (place place' tier chunk chunks chunk' chunks' : ℕ) → place ≡ place'
-    → (place * tier + chunk + chunks ≤ place' * tier + chunk') ⊎ (place' * tier + chunk' + chunks' ≤ place * tier + chunk)
-    → (chunk + chunks ≤ chunk') ⊎ (chunk' + chunks' ≤ chunk)
-out_tier place place' tier chunk chunks chunk' chunks' same apart = grind arith
-
-pub apart_not_met : (geo : Geo) (placed other : Placed) → IsApart geo other placed → meets geo placed.place placed.chunk (chunks_of geo placed) other ≡ false
-apart_not_met geo placed other apart = elim (cases_eq other.place placed.place) [
-  | inl same ↦ far (other.place == placed.place) other.chunk (chunks_of geo other) placed.chunk (chunks_of geo placed)
-      (out_tier other.place placed.place geo.chunks other.chunk (chunks_of geo other) placed.chunk (chunks_of geo placed) same apart)
-  | inr differ ↦ (let away : (other.place == placed.place) ≡ false = elsewhere other.place placed.place differ in rw away refl)
-]
-  where
-    elsewhere : (a b : ℕ) → a ≢ b → (a == b) ≡ false
-    elsewhere a b ne = grind (arith, nat_tests)
-
--- runs that are apart begin apart
-apart_starts : (geo : Geo) (placed other : Placed) → IsApart geo other placed → run_start geo other ≢ run_start geo placed
-apart_starts geo placed other apart = by_numbers (run_start geo other) (chunks_of geo other) (run_start geo placed) (chunks_of geo placed) (chunks_some geo other) (chunks_some geo placed) apart
-  where
-    by_numbers : (start chunks at more : ℕ) → 1 ≤ chunks → 1 ≤ more → (start + chunks ≤ at) ⊎ (at + more ≤ start) → start ≢ at
-    by_numbers start chunks at more h k apart e = grind arith
-
--- a test that none passes
-pub none_any : {X : Type 0} (test : X → Bool) (xs : List X) → AllByRecursion (λ x. test x ≡ false) xs → list_any test xs ≡ false
-none_any test [] h = refl
-none_any test (x ∷ xs) h = rw (h.0, none_any test xs h.1) refl
-
--- an element that passes
-pub some_any : {X : Type 0} (test : X → Bool) (xs : List X) → list_any test xs ≡ true → (x : X) × In x xs × (test x ≡ true)
-some_any test [] e = cc e
-some_any test (x ∷ xs) e = elim (cases_Bool (test x)) [
-  | inl passes ↦ (x, inl refl, passes)
-  | inr fails ↦ (let later = some_any test xs (rw fails at e) in (later.0, inr later.1, later.2))
-]
-
--- an entry among others, and others beside it
-pub in_with : (geo : Geo) (placed : Placed) (entries : List Placed) → In placed (with_entry geo placed entries)
-in_with geo placed entries =
-    in_right (filter (λ other. nat_lt (run_start geo other) (run_start geo placed)) entries) (placed ∷ filter (λ other. nat_lt (run_start geo placed) (run_start geo other)) entries) placed (inl refl)
-
-pub stays_with : (geo : Geo) (placed : Placed) (entries : List Placed) (other : Placed) → run_start geo other ≢ run_start geo placed → In other entries → In other (with_entry geo placed entries)
-stays_with geo placed entries other ne i =
-    let before : Placed → Bool = λ other. nat_lt (run_start geo other) (run_start geo placed) in
-    let behind : Placed → Bool = λ other. nat_lt (run_start geo placed) (run_start geo other) in
-    elim (cases_Bool (before other)) [
-      | inl low ↦ in_left (filter before entries) (placed ∷ filter behind entries) other (in_kept_to before entries other i low)
-      | inr high ↦ in_right (filter before entries) (placed ∷ filter behind entries) other (inr (in_kept_to behind entries other i (above (run_start geo other) (run_start geo placed) ne high)))
-    ]
-  where
-    above : (a b : ℕ) → a ≢ b → nat_lt a b ≡ false → nat_lt b a ≡ true
-    above a b ne not_low = grind (arith, nat_tests)
 
 -- What is kept is sound: its entries may be kept, they stand in the order of their runs and have different keys, and drops are for the causes
 -- of torn words.

@@ -1,27 +1,28 @@
 -- Of words that stand for a state that state is kept, and nothing is dropped.
-use Rattle.std.proofs.Common.{◌≡◌, ◌≢◌, ℕ, ◌<◌, List, [], Some, refl, ap, sym, subst, ◌∙◌, arith, inl, inr}
+use Rattle.std.proofs.Common.{◌≡◌, ◌≢◌, ℕ, List, [], Some, refl, ap, sym, subst, ◌∙◌, inl, inr}
 use Rattle.std.specs.List.{AllByRecursion}
 use Rattle.std.proofs.lemmas.List.Elements.{recursion_from_All}
 use Rattle.cm_geo.specs.declared.geo.Geo.{Geo}
 use Rattle.cm_plain.specs.declared.placed.Placed.{Placed}
-use Rattle.cm_plain.specs.States.{HasRun, State}
+use Rattle.cm_plain.specs.States.{State}
 use Rattle.cm_plain.specs.Slots.{slot_for}
 use Rattle.cm_plain.specs.FoundChains.{KeepsAllowance, chain_of}
 use Rattle.cm_plain.specs.Lawful.{IsSlotOf, Represents, TierRepresents}
-use Rattle.cm_plain.proofs.Apart.{chunks_some}
+use Rattle.cm_plain.proofs.Apart.{begins_low}
 use Rattle.cm_plain.proofs.Each.{pairs_from_all, pairs_weaker}
-use Rattle.cm_plain.proofs.OneState.{In, in_from, in_has, in_to, same_entries}
+use Rattle.cm_plain.proofs.OneState.{same_entries}
+use Rattle.cm_plain.proofs.ListElements.{In, all_in, in_from, in_has, in_to}
+use Rattle.cm_plain.proofs.StatePairs.{apart_in, placed_in, same_in}
+use Rattle.cm_plain.proofs.States.{each_differs, each_rising, same_state}
 use Rattle.cm_recover.specs.Occupied.{OccupiedSlot, occupied_slots}
 use Rattle.cm_recover.specs.Judgements.{judgement}
 use Rattle.cm_recover.specs.KeptSlots.{KeptEntries, kept_in, kept_of, kept_state}
-use Rattle.cm_recover.specs.Laws.{LawfulStays}
+use Rattle.cm_recover.specs.Laws.{KeepsStates}
 use Rattle.cm_recover.proofs.Allowing.{all_allowed}
-use Rattle.cm_recover.proofs.ListElements.{all_in}
 use Rattle.cm_recover.proofs.Walking.{IsElsewhere, StandsIn, occupied_from, occupied_once, occupied_to}
 use Rattle.cm_recover.proofs.Keeping.{HasKey, IsJudge, IsKeeping, keeps}
 use Rattle.cm_recover.proofs.Dropping.{AreOfKeys, all_kept}
 use Rattle.cm_recover.proofs.Judging.{by_entry}
-use Rattle.cm_recover.proofs.StatePairs.{apart_in, differs_in, placed_in, rising_in, same_in}
 
 -- a slot is that of an entry of the state
 record IsOf (geo : Geo) (words : List ℕ) (state : State) (at : OccupiedSlot) (placed : Placed) : Type 0 where
@@ -30,14 +31,10 @@ record IsOf (geo : Geo) (words : List ℕ) (state : State) (at : OccupiedSlot) (
   place_is : placed.place ≡ at.place
   slot_is : at.slot ≡ slot_for geo placed.key placed.chunk
 
--- an entry begins in its tier
-pub begins_low : (geo : Geo) (placed : Placed) → HasRun geo placed → placed.chunk < geo.chunks
-begins_low geo placed run = omega (arith, run.inside, chunks_some geo placed)
-
 judges : (geo : Geo) (segment : ℕ) (words : List ℕ) (state : State) → Represents geo segment words state
     → IsJudge geo (judgement geo segment words (chain_of geo words).places) (λ placed. In placed state.entries) (IsOf geo words state)
 judges geo segment words state tells = record {
-  alone = λ one other i j ne. apart_in geo state.entries one other (rising_in geo segment state tells.is_state) i j ne;
+  alone = λ one other i j ne. apart_in geo state.entries one other (each_rising tells.is_state) i j ne;
   may = λ at placed of. of.there;
   beside = λ at placed kept of. (let is = placed_in geo segment state placed tells.is_state of.there in
       by_entry geo segment words (chain_of geo words).places kept at placed of.stands.chained of.place_is of.slot_is (begins_low geo placed is.run) (tells.stand placed (in_to state.entries placed of.there)) is.here);
@@ -54,7 +51,7 @@ slot_of geo segment words state at tells stands =
 -- slots at two numbers are those of two entries
 two_keys : (geo : Geo) (segment : ℕ) (words : List ℕ) (state : State) (at other : OccupiedSlot) → Represents geo segment words state → IsElsewhere at other → AreOfKeys (IsOf geo words state) at other
 two_keys geo segment words state at other tells elsewhere one two of of' key_same =
-    let same : one ≡ two = same_in state.entries one two (differs_in geo segment state tells.is_state) of.there of'.there key_same in
+    let same : one ≡ two = same_in state.entries one two (each_differs tells.is_state) of.there of'.there key_same in
     let place : at.place ≡ other.place = sym of.place_is ∙ ap (λ (p : Placed). p.place) same ∙ of'.place_is in
     let once = tells.pointed one (in_to state.entries one of.there) in
     let number : at.number ≡ other.number =
@@ -86,7 +83,7 @@ keeps_all geo segment words state tells =
     (all_in _ (occupied_slots geo words) (λ at i. inl (slot_of geo segment words state at tells (occupied_from geo words at i)))) in
     let entries : List Placed = (kept_of geo segment words (chain_of geo words).places (record { entries = []; drops = [] }) (occupied_slots geo words)).entries in
     record {
-      entries = same_entries geo entries state.entries keeping.more.sound.rising (rising_in geo segment state tells.is_state)
+      entries = same_entries geo entries state.entries keeping.more.sound.rising (each_rising tells.is_state)
           (λ placed i. in_has (λ placed. In placed state.entries) entries placed keeping.more.sound.may i)
           (λ placed i. back placed i (kept_of geo segment words (chain_of geo words).places (record { entries = []; drops = [] }) (occupied_slots geo words)) keeping);
       drops = all_kept geo (judgement geo segment words (chain_of geo words).places) (λ placed. In placed state.entries) (IsOf geo words state) (occupied_slots geo words) is of
@@ -104,13 +101,13 @@ keeps_all geo segment words state tells =
         let has : HasKey later placed.key = keeping.has at placed (occupied_to geo words placed.place point.0 (slot_for geo placed.key placed.chunk) chained point.1.inside point.1.slot_is)
         (record { stands = stands; there = i; place_is = refl; slot_is = refl }) in
         let may = in_has (λ placed. In placed state.entries) later.entries has.placed keeping.more.sound.may has.is_in in
-        let same : has.placed ≡ placed = same_in state.entries has.placed placed (differs_in geo segment state tells.is_state) may i has.key_is in
+        let same : has.placed ≡ placed = same_in state.entries has.placed placed (each_differs tells.is_state) may i has.key_is in
         subst (λ (p : Placed). In p later.entries) same has.is_in
 
 -- the law of words that stand for a state
-pub lawful_stays : (geo : Geo) (words_of : ℕ → List ℕ) → KeepsAllowance geo words_of → LawfulStays geo words_of
+pub keeps_states : (geo : Geo) (words_of : ℕ → List ℕ) → KeepsAllowance geo words_of → KeepsStates geo words_of
 unfolding kept_in
-lawful_stays geo words_of keeps segment state below lawful =
+keeps_states geo words_of keeps segment state below lawful =
     let words : List ℕ = words_of segment in
     let all = keeps_all geo segment words state lawful.tells in
     let allowed_is = all_allowed geo words_of segment keeps below in
@@ -119,8 +116,3 @@ lawful_stays geo words_of keeps segment state below lawful =
       state_is = same_state (kept_state geo words_of segment) state (allowed_is ∙ lawful.tells.chain) entries;
       no_drops = rw allowed_is all.drops;
     }
-  where
-    same_state : (one other : State) → one.chain ≡ other.chain → one.entries ≡ other.entries → one ≡ other
-    same_state one other chain entries =
-        let of : List ℕ → List Placed → State = λ chain entries. record { chain = chain; entries = entries } in
-        let e : of one.chain one.entries ≡ of other.chain other.entries = rw (chain, entries) refl in e

@@ -1,13 +1,10 @@
 -- The lemmas of the crate.
-pub mod ListElements
 pub mod Walking
 pub mod Allowing
 pub mod Keeping
 pub mod Dropping
 pub mod Judging
-pub mod StatePairs
 pub mod LawfulWords
-pub mod Planned
 pub mod InPlaceWords
 pub mod Roles
 pub mod InPlace

@@ -1,5 +1,5 @@
 -- Which entries may be kept of torn words: those of other keys, and what an outcome allows for the change's key.
-use Rattle.std.proofs.Common.{◌≡◌, ◌≢◌, ℕ, ◌<◌, ◌⊎◌, List, Some, ap, sym, subst, ◌∙◌, arith, inl, inr}
+use Rattle.std.proofs.Common.{◌≡◌, ◌≢◌, ℕ, ◌⊎◌, List, Some, ap, sym, subst, ◌∙◌, inl, inr}
 use Rattle.cm_geo.specs.declared.geo.Geo.{Geo}
 use Rattle.cm_geo.specs.Hash.{segment_of_key}
 use Rattle.cm_plain.specs.declared.op.Op.{Op}
@@ -10,16 +10,17 @@ use Rattle.cm_plain.specs.Steps.{Plans}
 use Rattle.cm_plain.specs.Slots.{slot_for}
 use Rattle.cm_plain.specs.Readings.{Stands}
 use Rattle.cm_plain.specs.FoundChains.{chain_of}
-use Rattle.cm_plain.proofs.Apart.{IsApart, chunks_some}
-use Rattle.cm_plain.proofs.OneState.{In, in_to}
-use Rattle.cm_plain.proofs.RestingTorn.{found_is}
+use Rattle.cm_plain.proofs.Apart.{IsApart, apart_symmetric, begins_low}
+use Rattle.cm_plain.proofs.EntrySets.{found_is}
+use Rattle.cm_plain.proofs.ListElements.{In, in_to}
+use Rattle.cm_plain.proofs.Planned.{new_apart}
+use Rattle.cm_plain.proofs.StatePairs.{apart_in}
+use Rattle.cm_plain.proofs.States.{each_rising}
 use Rattle.cm_recover.specs.Occupied.{OccupiedSlot}
 use Rattle.cm_recover.specs.Judgements.{judgement}
 use Rattle.cm_recover.specs.Outcomes.{IsChangeOutcome}
 use Rattle.cm_recover.proofs.Keeping.{AreAlone, IsJudge}
 use Rattle.cm_recover.proofs.Judging.{by_entry}
-use Rattle.cm_recover.proofs.Planned.{new_apart}
-use Rattle.cm_recover.proofs.StatePairs.{apart_in, rising_in}
 
 -- an entry of another key than the change's
 pub record IsTheirs (state : State) (change : Change) (placed : Placed) : Type 0 where
@@ -50,19 +51,11 @@ pub record IsOf (geo : Geo) (segment : ℕ) (words : List ℕ) (state : State) (
 alone : (geo : Geo) (segment : ℕ) (words : List ℕ) (state : State) (change : Change) → IsState geo segment state → AreAlone geo (MayBeKept geo segment words state change)
 alone geo segment words state change is one other may may' ne = by may.role may'.role
   where
-    turned : IsApart geo other one → IsApart geo one other
-    turned (inl h) = inr h
-    turned (inr h) = inl h
-
     by : IsTheirs state change one ⊎ IsIts geo state change one → IsTheirs state change other ⊎ IsIts geo state change other → IsApart geo one other
-    by (inl their) (inl their') = apart_in geo state.entries one other (rising_in geo segment state is) their.is_in their'.is_in ne
+    by (inl their) (inl their') = apart_in geo state.entries one other (each_rising is) their.is_in their'.is_in ne
     by (inl their) (inr its') = its'.apart one their
-    by (inr its) (inl their') = turned (its.apart other their')
+    by (inr its) (inl their') = apart_symmetric geo other one (its.apart other their')
     by (inr its) (inr its') = absurd (ne (its.key_is ∙ sym its'.key_is))
-
--- an entry begins in its tier
-begins_low : (geo : Geo) (placed : Placed) → HasRun geo placed → placed.chunk < geo.chunks
-begins_low geo placed run = omega (arith, run.inside, chunks_some geo placed)
 
 -- so slots are judged by their entries
 pub judges : (geo : Geo) (segment : ℕ) (words : List ℕ) (state : State) (change : Change) → IsState geo segment state
@@ -82,7 +75,7 @@ value_is geo segment state key placed is i key_is = ap value_in (found_is geo se
 pub its_old : (geo : Geo) (segment : ℕ) (state : State) (change : Change) (old : Placed) → IsState geo segment state → In old state.entries → old.key ≡ change.key → IsIts geo state change old
 its_old geo segment state change old is i key_is = record {
   key_is = key_is;
-  apart = λ other their. apart_in geo state.entries other old (rising_in geo segment state is) their.is_in i (λ same. their.other (same ∙ key_is));
+  apart = λ other their. apart_in geo state.entries other old (each_rising is) their.is_in i (λ same. their.other (same ∙ key_is));
   outcome = inl (inl (value_is geo segment state change.key old is i key_is));
 }
 

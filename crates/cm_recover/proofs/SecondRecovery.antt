@@ -1,4 +1,4 @@
--- Recovered words keep the allowance, and a second recovery changes nothing.
+-- Recovered words keep the allowance, and a second recovery keeps each state and drops nothing.
 use Rattle.std.proofs.Common.{◌≡◌, ℕ, ◌+◌, ◌-◌, ◌<◌, ◌≤◌, List, length, refl, ap, arith, zero, suc}
 use Rattle.std.specs.List.{range_with_len, sum_by}
 use Rattle.std.proofs.lemmas.List.{length-take}
@@ -8,8 +8,8 @@ use Rattle.cm_plain.specs.FoundChains.{KeepsAllowance, chain_of}
 use Rattle.cm_recover.specs.Allowed.{allowed_places, extra_before}
 use Rattle.cm_recover.specs.KeptSlots.{kept_state}
 use Rattle.cm_recover.specs.Recovered.{Recovered}
-use Rattle.cm_recover.specs.Laws.{StaysRecovered}
-use Rattle.cm_recover.proofs.LawfulWords.{lawful_stays}
+use Rattle.cm_recover.specs.Laws.{KeepsRecovered}
+use Rattle.cm_recover.proofs.LawfulWords.{keeps_states}
 
 -- a sum with one more number at its end
 sum_more : (f : ℕ → ℕ) (low count : ℕ) → sum_by f (range_with_len low (suc count)) ≡ sum_by f (range_with_len low count) + f (low + count)
@@ -68,7 +68,7 @@ keeps_allowance geo old new recovered =
     let left = tiers_left geo old s in
     record { of_it = rw len left.0; left = rw len left.1 }))).within_limit
 
-pub stays_recovered : (geo : Geo) (old new : ℕ → List ℕ) → Recovered geo old new → StaysRecovered geo old new
-stays_recovered geo old new recovered =
+pub keeps_recovered : (geo : Geo) (old new : ℕ → List ℕ) → Recovered geo old new → KeepsRecovered geo old new
+keeps_recovered geo old new recovered =
     let keeps = keeps_allowance geo old new recovered in
-    record { allowance = keeps; same = λ segment below. lawful_stays geo new keeps segment (kept_state geo old segment) below (recovered.stand segment below).apart }
+    record { allowance = keeps; same = λ segment below. keeps_states geo new keeps segment (kept_state geo old segment) below (recovered.stand segment below).apart }

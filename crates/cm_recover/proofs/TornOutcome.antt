@@ -14,22 +14,21 @@ use Rattle.cm_plain.specs.FoundChains.{KeepsAllowance, chain_of}
 use Rattle.cm_plain.specs.Torn.{IsPointedInChain, Torn}
 use Rattle.cm_plain.proofs.Apart.{Rising}
 use Rattle.cm_plain.proofs.Each.{all_from_pairs, each_weaker}
-use Rattle.cm_plain.proofs.States.{Differs}
-use Rattle.cm_plain.proofs.OneState.{In, in_from, in_has, in_to}
-use Rattle.cm_plain.proofs.RestingTorn.{found_is}
+use Rattle.cm_plain.proofs.States.{Differs, each_differs}
+use Rattle.cm_plain.proofs.EntrySets.{found_is, found_none, found_there}
+use Rattle.cm_plain.proofs.ListElements.{In, all_in, in_from, in_has, in_left, in_to}
+use Rattle.cm_plain.proofs.Planned.{begins_or_not, old_at}
+use Rattle.cm_plain.proofs.StatePairs.{placed_in, same_in}
 use Rattle.cm_recover.specs.Occupied.{OccupiedSlot, occupied_slots}
 use Rattle.cm_recover.specs.Allowed.{allowed_places}
 use Rattle.cm_recover.specs.Judgements.{judgement}
 use Rattle.cm_recover.specs.KeptSlots.{KeptEntries, kept_in, kept_of}
 use Rattle.cm_recover.specs.Outcomes.{IsChangeOutcome, Outcome}
-use Rattle.cm_recover.specs.Laws.{IsTorn, IsCauseOfTorn, TornEnds}
+use Rattle.cm_recover.specs.Laws.{IsTorn, IsCauseOfTorn, KeepsOutcomes}
 use Rattle.cm_recover.proofs.Allowing.{all_allowed}
 use Rattle.cm_recover.proofs.TornSlots.{ReadsIts, by_kind, judged, new_judged, old_judged, others_judged}
-use Rattle.cm_recover.proofs.ListElements.{all_in, in_left}
 use Rattle.cm_recover.proofs.Keeping.{HasKey, IsKeeping, keeps}
-use Rattle.cm_recover.proofs.Planned.{begins_or_not, found_none, found_there, old_at}
 use Rattle.cm_recover.proofs.Roles.{IsIts, IsOf, IsTheirs, MayBeKept, judges, value_is}
-use Rattle.cm_recover.proofs.StatePairs.{differs_in, placed_in, same_in}
 use Rattle.cm_recover.proofs.Walking.{StandsIn, occupied_from, occupied_to}
 
 -- what is kept of torn words, where the allowance covers all their tiers
@@ -104,7 +103,7 @@ their_kept geo segment words state op change kept placed is_torn whole i ne =
     (record { placed = placed; is_other = record { there = there; other = ne }; place_is = refl; slot_is = refl }) in
     let has : HasKey kept placed.key = whole.has at placed (occupied_to geo words placed.place point.0 (slot_for geo placed.key placed.chunk) chained point.1.inside point.1.slot_is) of in
     let may = may_of geo segment words state change kept has.placed whole has.is_in in
-    let same : has.placed ≡ placed = same_in state.entries has.placed placed (differs_in geo segment state is_torn.plans.is_state) (their_role geo state change has.placed may.role (λ e. ne (sym has.key_is ∙ e))) i has.key_is in
+    let same : has.placed ≡ placed = same_in state.entries has.placed placed (each_differs is_torn.plans.is_state) (their_role geo state change has.placed may.role (λ e. ne (sym has.key_is ∙ e))) i has.key_is in
     subst (λ (p : Placed). In p kept.entries) same has.is_in
 
 -- each other key has what it had
@@ -199,14 +198,14 @@ its_outcome geo segment words state op change kept is_torn whole = by (entry_of 
         subst (λ (v : Option (List ℕ)). IsChangeOutcome geo state change v) (sym (ap value_in e)) (its_role placed may.role there.key_is)
 
 -- what is kept where the allowance covers the tiers at these places
-record EndsWell (geo : Geo) (segment : ℕ) (words : List ℕ) (state : State) (change : Change) (places : List ℕ) (kept : KeptEntries) : Type 0 where
+record KeepsOutcomeAt (geo : Geo) (segment : ℕ) (words : List ℕ) (state : State) (change : Change) (places : List ℕ) (kept : KeptEntries) : Type 0 where
   is_state : IsState geo segment (record { chain = places; entries = kept.entries })
   outcome : Outcome geo state change (λ key. value_of key (record { chain = places; entries = kept.entries }))
   drops : All IsCauseOfTorn kept.drops
 
-ends_well : (geo : Geo) (segment : ℕ) (words : List ℕ) (state : State) (op : Op) (change : Change) (kept : KeptEntries) → IsTorn geo segment words state op change → IsWhole geo segment words state change kept
-    → EndsWell geo segment words state change (chain_of geo words).places kept
-ends_well geo segment words state op change kept is_torn whole = record {
+outcome_at : (geo : Geo) (segment : ℕ) (words : List ℕ) (state : State) (op : Op) (change : Change) (kept : KeptEntries) → IsTorn geo segment words state op change → IsWhole geo segment words state change kept
+    → KeepsOutcomeAt geo segment words state change (chain_of geo words).places kept
+outcome_at geo segment words state op change kept is_torn whole = record {
   is_state = is_state_of geo segment words state op change kept is_torn whole;
   outcome = record {
     others = λ key ne. others_same geo segment words state op change kept key is_torn whole ne;
@@ -216,11 +215,11 @@ ends_well geo segment words state op change kept is_torn whole = record {
 }
 
 -- the law of torn words
-pub torn_ends : (geo : Geo) (words_of : ℕ → List ℕ) → KeepsAllowance geo words_of → TornEnds geo words_of
+pub keeps_outcomes : (geo : Geo) (words_of : ℕ → List ℕ) → KeepsAllowance geo words_of → KeepsOutcomes geo words_of
 unfolding kept_in
-torn_ends geo words_of keeps segment state op change below is_torn =
+keeps_outcomes geo words_of keeps segment state op change below is_torn =
     let words : List ℕ = words_of segment in
-    let whole = ends_well geo segment words state op change (kept_whole geo segment words) is_torn (keeps_whole geo segment words state op change is_torn) in
-    let all : EndsWell geo segment words state change (allowed_places geo words_of segment) (kept_in geo words_of segment) =
-    subst (λ (places : List ℕ). EndsWell geo segment words state change places (kept_of geo segment words places (record { entries = []; drops = [] }) (occupied_slots geo words))) (sym (all_allowed geo words_of segment keeps below)) whole in
+    let whole = outcome_at geo segment words state op change (kept_whole geo segment words) is_torn (keeps_whole geo segment words state op change is_torn) in
+    let all : KeepsOutcomeAt geo segment words state change (allowed_places geo words_of segment) (kept_in geo words_of segment) =
+    subst (λ (places : List ℕ). KeepsOutcomeAt geo segment words state change places (kept_of geo segment words places (record { entries = []; drops = [] }) (occupied_slots geo words))) (sym (all_allowed geo words_of segment keeps below)) whole in
     record { is_state = all.is_state; outcome = all.outcome; drops = all.drops }

@@ -11,15 +11,15 @@ use Rattle.cm_plain.specs.Steps.{Plans}
 use Rattle.cm_plain.specs.Slots.{slot_for}
 use Rattle.cm_plain.specs.FoundChains.{chain_of}
 use Rattle.cm_plain.specs.Torn.{BeginsAt, IsChangeSlot, IsOtherSlot, IsPointedInChain, Torn}
-use Rattle.cm_plain.proofs.OneState.{In, in_from, in_to}
+use Rattle.cm_plain.proofs.ListElements.{In, in_from, in_to}
+use Rattle.cm_plain.proofs.Planned.{IsAtEntry, begins_or_not, new_at, old_at}
+use Rattle.cm_plain.proofs.StatePairs.{placed_in}
 use Rattle.cm_recover.specs.Occupied.{OccupiedSlot}
 use Rattle.cm_recover.specs.Judgements.{judgement}
 use Rattle.cm_recover.specs.Laws.{IsTorn}
 use Rattle.cm_recover.proofs.InPlace.{in_place_judged}
 use Rattle.cm_recover.proofs.Keeping.{IsJudged}
-use Rattle.cm_recover.proofs.Planned.{IsAtEntry, begins_or_not, new_at, old_at}
 use Rattle.cm_recover.proofs.Roles.{IsOf, its_new, its_old}
-use Rattle.cm_recover.proofs.StatePairs.{placed_in}
 use Rattle.cm_recover.proofs.Walking.{StandsIn}
 
 -- a change in place, or another one

@@ -8,6 +8,7 @@ use Rattle.std.proofs.lemmas.List.Elements.{All-from_recursion}
 use Rattle.std.proofs.lemmas.List.Sums.{sum_by-cons}
 use Rattle.std.proofs.lemmas.List.{get_or-replicate, get_or_past, length-replicate}
 use Rattle.cm_geo.specs.declared.geo.Geo.{Geo}
+use Rattle.cm_geo.specs.declared.limits.TheConstants.{MAX_RUN_CHUNKS, WORD_BITS}
 use Rattle.cm_geo.specs.Addresses.{bits_at, slot_at, tier_at, words_in_segment}
 use Rattle.cm_geo.specs.Hash.{segment_of_key}
 use Rattle.cm_geo.specs.Need.{Fits, need}
@@ -22,13 +23,13 @@ use Rattle.cm_plain.specs.Changes.{Change, entry_at, placing_change, planned_cha
 use Rattle.cm_plain.specs.Steps.{Plans}
 use Rattle.cm_plain.specs.Torn.{IsChangeSlot, Torn}
 use Rattle.cm_plain.specs.Readings.{Stands}
-use Rattle.cm_plain.proofs.OneState.{In, in_from}
 use Rattle.cm_plain.specs.Slots.{IsPointed, Slot, slot_for, slot_in, word_at}
 use Rattle.cm_plain.specs.FoundChains.{chain_of, chain_from}
-use Rattle.cm_plain.specs.Lawful.{EndsHead, HasBit, LawfulApart, Resting, Represents, TierRepresents}
+use Rattle.cm_plain.specs.Lawful.{EndsHead, HasBit, LawfulApart, Represents, TierRepresents}
 use Rattle.cm_plain.proofs.Placing.{placed_state}
 use Rattle.cm_plain.proofs.RestingTorn.{resting_torn}
 use Rattle.cm_plain.proofs.OutsideHead.{resting_many}
+use Rattle.cm_plain.proofs.ListElements.{In, in_from}
 use Rattle.cm_recover.specs.Premises.{FirstWrittenIsTorn, IsFirstWritten, RestingIsTorn, ZerosAreTorn, zeros}
 
 -- words that rest are as many as a segment's, and torn
@@ -67,7 +68,7 @@ alone : (geo : Geo) (segment : ℕ) → chain_of geo (zeros geo segment) ≡ rec
 alone geo segment = alone_is geo (zeros geo segment) (all_zero (words_in_segment geo) (tier_at geo 0))
 
 no_bit : (geo : Geo) (segment place chunk : ℕ) → HasBit geo (zeros geo segment) place chunk → ⊥
-no_bit geo segment place chunk set = set (rw (all_zero (words_in_segment geo) (bits_at geo place (chunk / 64))) (none_set (2 ^ (chunk % 64))))
+no_bit geo segment place chunk set = set (rw (all_zero (words_in_segment geo) (bits_at geo place (chunk / WORD_BITS))) (none_set (2 ^ (chunk % WORD_BITS))))
   where
     none_set : (mask : ℕ) → bit_and 0 mask ≡ 0
     none_set mask = grind (arith, common_steps)
@@ -118,17 +119,13 @@ zeros_stand geo segment = record {
   tells = zeros_tell geo segment;
 }
 
-zeros_rest : (geo : Geo) (segment : ℕ) → Resting geo segment (zeros geo segment) one_tier
-unfolding Resting
-zeros_rest geo segment = zeros_stand geo segment
-
 -- a first number that passes is found
 finds_first : (test : ℕ → Bool) (n : ℕ) → 1 ≤ n → test 0 ≡ true → find test (range_with_len 0 n) ≡ Some 0
 finds_first test zero nonzero passes = absurd (omega arith)
 finds_first test (suc n) nonzero passes = rw passes refl
 
 -- what fits has room at the first chunk of an empty tier
-first_room : (geo : Geo) (chunks : ℕ) → chunks ≤ 64 → first_fit geo one_tier chunks ≡ Some (record { place = 0; chunk = 0 })
+first_room : (geo : Geo) (chunks : ℕ) → chunks ≤ MAX_RUN_CHUNKS → first_fit geo one_tier chunks ≡ Some (record { place = 0; chunk = 0 })
 first_room geo chunks within_limit =
     let inside : nat_le (0 + chunks) geo.chunks ≡ true = grind (arith, nat_tests, chunks_range geo) in
     let free : is_free geo [] 0 0 chunks ≡ true = rw inside refl in
@@ -207,12 +204,22 @@ no_extra geo (suc n) from =
     both : (a b : ℕ) → a ≡ 0 → b ≡ 0 → a + b ≡ 0
     both a b e f = omega arith
 
+-- words in which nothing was written are words into which any first entry may be written
+zeros_written : (geo : Geo) (segment : ℕ) (key value : List ℕ) → IsFirstWritten geo (zeros geo segment) key value
+zeros_written geo segment key value = record {
+  length_is = length-replicate (words_in_segment geo) 0;
+  alone = all_zero (words_in_segment geo) (tier_at geo 0);
+  slots = λ number slot inside e. absurd (clash (sym (no_slot geo segment 0 number) ∙ e));
+  unlinked = λ place inside other offset below. all_zero (words_in_segment geo) (tier_at geo place + offset);
+}
+  where
+    clash : {X : Type 0} {x : X} → None ≡ Some x → ⊥
+    clash e = cc e
+
 -- the premises of the laws are met by words in which nothing was written
 pub zeros_are_torn : (geo : Geo) → ZerosAreTorn geo
 zeros_are_torn geo = record {
   allowance = rw (no_extra geo geo.segments 0) (omega arith);
   stand = zeros_stand geo;
-  torn = λ key value fits.
-      resting_is_torn geo (segment_of_key geo key) (zeros geo (segment_of_key geo key)) one_tier (Put key value) (planned_change geo one_tier (Put key value) key)
-      (zeros_rest geo (segment_of_key geo key)) (put_plans geo key value fits);
+  torn = λ key value fits. first_written_is_torn geo (zeros geo (segment_of_key geo key)) key value fits (zeros_written geo (segment_of_key geo key) key value);
 }

@@ -34,8 +34,8 @@ pub record KeepsOutcome (geo : Geo) (words_of : ℕ → List ℕ) (segment : ℕ
   pub drops : All IsCauseOfTorn (kept_in geo words_of segment).drops
 
 -- it is so for each segment with such words
-abbrev pub TornEnds : Geo → (ℕ → List ℕ) → Type 0
-TornEnds geo words_of =
+abbrev pub KeepsOutcomes : Geo → (ℕ → List ℕ) → Type 0
+KeepsOutcomes geo words_of =
     (segment : ℕ) (state : State) (op : Op) (change : Change) → segment < geo.segments
     → IsTorn geo segment (words_of segment) state op change → KeepsOutcome geo words_of segment state change
 
@@ -45,8 +45,8 @@ pub record KeepsState (geo : Geo) (words_of : ℕ → List ℕ) (segment : ℕ) 
   pub no_drops : (kept_in geo words_of segment).drops ≡ []
 
 -- it is so for each segment with such words, whatever its lock word and its change number
-abbrev pub LawfulStays : Geo → (ℕ → List ℕ) → Type 0
-LawfulStays geo words_of =
+abbrev pub KeepsStates : Geo → (ℕ → List ℕ) → Type 0
+KeepsStates geo words_of =
     (segment : ℕ) (state : State) → segment < geo.segments → LawfulApart geo segment (words_of segment) state → KeepsState geo words_of segment state
 
 -- what is kept of a segment is a state, whatever stands in its words, as many as it has
@@ -54,6 +54,6 @@ abbrev pub GivesStates : Geo → (ℕ → List ℕ) → Type 0
 GivesStates geo words_of = (segment : ℕ) → length (words_of segment) ≡ words_in_segment geo → IsState geo segment (kept_state geo words_of segment)
 
 -- recovered words keep the allowance, and a second recovery keeps each state and drops nothing
-pub record StaysRecovered (geo : Geo) (old new : ℕ → List ℕ) : Type 0 where
+pub record KeepsRecovered (geo : Geo) (old new : ℕ → List ℕ) : Type 0 where
   pub allowance : KeepsAllowance geo new
   pub same : (segment : ℕ) → segment < geo.segments → KeepsState geo new segment (kept_state geo old segment)

@@ -4,11 +4,7 @@ use Rattle.cm_geo.specs.declared.geo.Geo.{Geo}
 use Rattle.cm_plain.specs.declared.plan.PlanKind.TheVariants as kind
 use Rattle.cm_plain.specs.States.{State, value_of}
 use Rattle.cm_plain.specs.Changes.{Change, after}
-use Rattle.cm_plain.specs.Readings.{checksum, padded, head_of}
-
--- the checksum of a key's entry with this value
-abbrev pub entry_checksum : List ℕ → List ℕ → ℕ
-entry_checksum key value = checksum (head_of key value) (padded key) (padded value)
+use Rattle.cm_plain.specs.Readings.{entry_checksum}
 
 -- A value that is none of the two, while one is replaced by the other in place: it is as long as one of them, and its checksum is by chance
 -- that of the old one.

@@ -11,7 +11,7 @@ pub enum Cause {
     Lengths,
     /// The checksum there isn't that of the entry's words.
     Checksum,
-    /// A filling byte there isn't zero.
+    /// A byte of the padding there isn't zero.
     Padding,
     /// The key there is of another segment.
     Segment,

@@ -3,7 +3,7 @@
 ghost use Rattle.std.specs.Prelude.{ℕ, List};
 ghost use Rattle.cm_geo.specs.declared.geo.Geo.{Geo};
 ghost use Rattle.cm_plain.specs.FoundChains.{KeepsAllowance};
-ghost use Rattle.cm_recover.specs.Laws.{GivesStates, LawfulStays, StaysRecovered, TornEnds};
+ghost use Rattle.cm_recover.specs.Laws.{GivesStates, KeepsStates, KeepsRecovered, KeepsOutcomes};
 ghost use Rattle.cm_recover.specs.Premises.{FirstWrittenIsTorn, RestingIsTorn, ZerosAreTorn};
 ghost use Rattle.cm_recover.specs.Recovered.{Recovered};
 
@@ -12,15 +12,15 @@ ghost use Rattle.cm_recover.specs.Recovered.{Recovered};
 /// Where the chained tiers of a map are as few as its geometry allows, it keeps of each segment what
 /// stood there. Of words that are torn for a planned change it keeps an outcome of that change, and drops
 /// slots for three causes alone: their key was kept already, the checksum isn't that of the words, or a
-/// filling byte isn't zero. Of words that stand for a state it keeps that state, and drops nothing.
+/// byte of the padding isn't zero. Of words that stand for a state it keeps that state, and drops nothing.
 ///
-/// So a second recovery changes nothing: recovered words keep the allowance, each state is kept, and no
-/// slot is dropped.
+/// So a second recovery keeps each state and drops nothing: recovered words keep the allowance, and stand
+/// for the states that were kept.
 pub fn recovery_keeps_what_stood()
     ensures states { (geo : Geo) (words_of : ℕ → List ℕ) → GivesStates geo words_of }
-    ensures torn { (geo : Geo) (words_of : ℕ → List ℕ) → KeepsAllowance geo words_of → TornEnds geo words_of }
-    ensures lawful { (geo : Geo) (words_of : ℕ → List ℕ) → KeepsAllowance geo words_of → LawfulStays geo words_of }
-    ensures again { (geo : Geo) (old new : ℕ → List ℕ) → Recovered geo old new → StaysRecovered geo old new }
+    ensures torn { (geo : Geo) (words_of : ℕ → List ℕ) → KeepsAllowance geo words_of → KeepsOutcomes geo words_of }
+    ensures lawful { (geo : Geo) (words_of : ℕ → List ℕ) → KeepsAllowance geo words_of → KeepsStates geo words_of }
+    ensures second { (geo : Geo) (old new : ℕ → List ℕ) → Recovered geo old new → KeepsRecovered geo old new }
 {}
 
 /// There are words of which `recovery_keeps_what_stood` speaks.
@@ -28,8 +28,8 @@ pub fn recovery_keeps_what_stood()
 /// Words that rest for a state are torn for each change that is planned for it. Words into which the first
 /// entry of a segment is written are torn for its put: no slot points to it before it stands, and bits,
 /// counts and all else in chunks may be anything. Words in which nothing was written are such words, in
-/// every geometry: they keep the allowance, rest for one empty tier, and are torn for each put of a key
-/// and a value that may be stored.
+/// every geometry: they keep the allowance, stand for one empty tier, whatever their lock word and change
+/// number, and are torn for each put of a key and a value that may be stored.
 pub fn words_are_torn()
     ensures resting { (geo : Geo) → RestingIsTorn geo }
     ensures first { (geo : Geo) → FirstWrittenIsTorn geo }

@@ -8,17 +8,19 @@ use Rattle.std.proofs.lemmas.Bool.Decides.{nat_tests}
 use Rattle.std.proofs.lemmas.Option.{same_Some}
 use Rattle.std.proofs.lemmas.List.Elements.{All-cons, All-nil}
 use Rattle.cm_geo.specs.declared.geo.Geo.{Geo}
+use Rattle.cm_geo.specs.declared.limits.TheConstants.{MAX_KEY_BYTES, MAX_RUN_CHUNKS}
 use Rattle.cm_geo.specs.Need.{Fits, need}
 use Rattle.cm_plain.specs.Limits.{IsKey, IsValue, KeepsLimits}
 use Rattle.cm_plain.specs.declared.op.Op.{Op}
 use Rattle.cm_plain.specs.declared.op.Op.TheVariants as op
+use Rattle.cm_script.specs.declared.limits.TheConstants.{MAX_CALLERS, MAX_SCRIPT_LISTS}
 use Rattle.cm_script.specs.declared.line.Line.{Line}
 use Rattle.cm_script.specs.declared.stop.LineCause.{LineCause}
 use Rattle.cm_script.specs.declared.stop.LineCause.TheVariants as cause
 use Rattle.cm_script.specs.declared.verb.Verb.{Verb}
 use Rattle.cm_script.specs.declared.verb.Verb.TheVariants as verb
 use Rattle.cm_script.specs.Numbers.{number_below}
-use Rattle.cm_script.specs.Scripts.{IsFor, Refusal, built, in_segment, is_built, is_empty, is_large, is_long_key, is_long_value, keyed, line_by, line_of, line_then, line_with, lines_from, lists_with, op_of, unless, verb_of, written}
+use Rattle.cm_script.specs.Scripts.{IsFor, IsLineFor, Refusal, built, in_segment, is_built, is_empty, is_large, is_long_key, is_long_value, keyed, line_by, line_of, line_then, line_with, lines_from, lists_with, op_of, unless, verb_of, written}
 
 -- what passes a test that would refuse it
 record Passes (test : Bool) (asked : Op) (result : Result Op LineCause) : Type 0 where
@@ -38,7 +40,7 @@ key_kept key asked got e =
     let nonempty = passes (is_empty key) cause.Argument (unless (is_long_key key) cause.TooLarge (Ok asked)) got e in
     let short = passes (is_long_key key) cause.TooLarge (Ok asked) got nonempty.is in
     let one : 1 ≤ length key = grind (arith, nat_tests, nonempty.clear) in
-    let most : length key ≤ 256 = grind (arith, nat_tests, short.clear) in
+    let most : length key ≤ MAX_KEY_BYTES = grind (arith, nat_tests, short.clear) in
     ((one, most), ok_same short.is)
 
 -- a key and a value that were accepted
@@ -52,7 +54,7 @@ entry_kept geo key value asked got e =
         key_some = grind (arith, nat_tests, nonempty.clear);
         key_short = grind (arith, nat_tests, keys.0);
         value_short = grind (arith, nat_tests, values.0);
-        few_chunks = not_over 64 (need geo (length key) (length value)) values.1;
+        few_chunks = not_over MAX_RUN_CHUNKS (need geo (length key) (length value)) values.1;
       },
       ok_same small.is,
     )
@@ -149,63 +151,71 @@ op_kept geo lists verb.Count (segment ∷ []) got e =
 op_kept geo lists verb.Count (segment ∷ other ∷ others) got e = cc e
 op_kept geo lists verb.List [] got e = cc e
 op_kept geo lists verb.List (segment ∷ []) got e =
-    let k = segment_kept geo.segments segment (λ number. op.List number) (nat_le 16 lists) got (number_below geo.segments segment) refl e in as_op geo (op.List k.segment) got k.is k.below
+    let k = segment_kept geo.segments segment (λ number. op.List number) (nat_le MAX_SCRIPT_LISTS lists) got (number_below geo.segments segment) refl e in as_op geo (op.List k.segment) got k.is k.below
 op_kept geo lists verb.List (segment ∷ other ∷ others) got e = cc e
 op_kept geo lists verb.Sweep [] got e = cc e
 op_kept geo lists verb.Sweep (segment ∷ []) got e = cc e
 op_kept geo lists verb.Sweep (segment ∷ prefix ∷ []) got e =
     let k = segment_kept geo.segments segment (λ number. op.Sweep number prefix) (is_long_key prefix) got (number_below geo.segments segment) refl e in
-    let short : length prefix ≤ 256 = grind (arith, nat_tests, k.small) in
+    let short : length prefix ≤ MAX_KEY_BYTES = grind (arith, nat_tests, k.small) in
     as_op geo (op.Sweep k.segment prefix) got k.is (k.below, short)
 op_kept geo lists verb.Sweep (segment ∷ prefix ∷ other ∷ others) got e = cc e
 
--- so does a line's
-by_kept : (geo : Geo) (caller : ℕ) (result : Result Op LineCause) (line : Line) → ((got : Op) → result ≡ Ok got → KeepsLimits geo got) → line_by caller result ≡ Ok line → KeepsLimits geo line.op
-by_kept geo caller (Err why) line kept e = cc e
-by_kept geo caller (Ok got) line kept e =
+-- a line that was accepted: its caller is one, and it keeps the limits
+record IsAccepted (geo : Geo) (line : Line) : Type 0 where
+  caller : line.caller < MAX_CALLERS
+  limits : KeepsLimits geo line.op
+
+by_op : (geo : Geo) (caller : ℕ) (result : Result Op LineCause) (line : Line) → caller < MAX_CALLERS → ((got : Op) → result ≡ Ok got → KeepsLimits geo got) → line_by caller result ≡ Ok line
+    → IsAccepted geo line
+by_op geo caller (Err why) line below kept e = cc e
+by_op geo caller (Ok got) line below kept e =
     let made : Line = record { caller = caller; op = got } in
     let same : made ≡ line = ok_same e in
-    subst (λ (it : Line). KeepsLimits geo it.op) same (kept got refl)
+    subst (IsAccepted geo) same (record { caller = below; limits = kept got refl })
 
-with_kept : (geo : Geo) (lists : ℕ) (caller : Option ℕ) (verb : Option Verb) (arguments : List (List ℕ)) (line : Line) → line_with geo lists caller verb arguments ≡ Ok line → KeepsLimits geo line.op
-with_kept geo lists None verb arguments line e = cc e
-with_kept geo lists (Some caller) None arguments line e = cc e
-with_kept geo lists (Some caller) (Some verb) arguments line e = by_kept geo caller (op_of geo lists verb arguments) line (op_kept geo lists verb arguments) e
+by_caller : (geo : Geo) (lists : ℕ) (text : List ℕ) (caller : Option ℕ) (verb : Option Verb) (arguments : List (List ℕ)) (line : Line) → number_below MAX_CALLERS text ≡ caller
+    → line_with geo lists caller verb arguments ≡ Ok line → IsAccepted geo line
+by_caller geo lists text None verb arguments line is e = cc e
+by_caller geo lists text (Some caller) None arguments line is e = cc e
+by_caller geo lists text (Some caller) (Some verb) arguments line is e =
+    by_op geo caller (op_of geo lists verb arguments) line (number_in MAX_CALLERS text caller is) (op_kept geo lists verb arguments) e
 
-line_kept : (geo : Geo) (lists : ℕ) (fields : List (List ℕ)) (line : Line) → line_of geo lists fields ≡ Ok line → KeepsLimits geo line.op
-line_kept geo lists [] line e = cc e
-line_kept geo lists (caller ∷ []) line e = cc e
-line_kept geo lists (caller ∷ word ∷ []) line e = cc e
-line_kept geo lists (caller ∷ word ∷ argument ∷ arguments) line e = elim (cases_Bool (nat_lt 2 (length arguments))) [
+line_accepted : (geo : Geo) (lists : ℕ) (fields : List (List ℕ)) (line : Line) → line_of geo lists fields ≡ Ok line → IsAccepted geo line
+line_accepted geo lists [] line e = cc e
+line_accepted geo lists (caller ∷ []) line e = cc e
+line_accepted geo lists (caller ∷ word ∷ []) line e = cc e
+line_accepted geo lists (caller ∷ word ∷ argument ∷ arguments) line e = elim (cases_Bool (nat_lt 2 (length arguments))) [
   | inl length_is ↦ let h = rw length_is at e in cc h
-  | inr within_limit ↦ with_kept geo lists (number_below 64 caller) (verb_of word) (argument ∷ arguments) line (rw within_limit at e)
+  | inr within_limit ↦ by_caller geo lists caller (number_below MAX_CALLERS caller) (verb_of word) (argument ∷ arguments) line refl (rw within_limit at e)
 ]
 
 -- a line that is built is one that was accepted
-built_kept : (geo : Geo) (result : Result Line LineCause) (line : Line) → ((got : Line) → result ≡ Ok got → KeepsLimits geo got.op) → built result ≡ Ok line → (is_built line ≡ true) × KeepsLimits geo line.op
-built_kept geo (Err why) line kept e = cc e
-built_kept geo (Ok got) line kept e = elim (cases_Bool (is_built got)) [
+built_kept : (geo : Geo) (result : Result Line LineCause) (line : Line) → ((got : Line) → result ≡ Ok got → IsAccepted geo got) → built result ≡ Ok line → IsLineFor geo line
+built_kept geo (Err why) line accepted e = cc e
+built_kept geo (Ok got) line accepted e = elim (cases_Bool (is_built got)) [
   | inl is ↦
       let same : got ≡ line = ok_same (rw is at e) in
-      subst (λ (it : Line). (is_built it ≡ true) × KeepsLimits geo it.op) same (is, kept got refl)
+      let it = accepted got refl in
+      subst (IsLineFor geo) same (record { is_done = is; caller = it.caller; limits = it.limits })
   | inr is_not ↦ let h = rw is_not at e in cc h
 ]
 
 -- a line and those behind it
 then_kept : (geo : Geo) (number : ℕ) (result : Result Line LineCause) (later : Result (List Line) Refusal) (lines : List Line)
-    → ((got : Line) → result ≡ Ok got → (is_built got ≡ true) × KeepsLimits geo got.op) → ((rest : List Line) → later ≡ Ok rest → IsFor geo rest)
+    → ((got : Line) → result ≡ Ok got → IsLineFor geo got) → ((rest : List Line) → later ≡ Ok rest → IsFor geo rest)
     → line_then number result later ≡ Ok lines → IsFor geo lines
 then_kept geo number (Err why) later lines one rest e = cc e
 then_kept geo number (Ok got) (Err why) lines one rest e = cc e
 then_kept geo number (Ok got) (Ok others) lines one rest e =
     let same : got ∷ others ≡ lines = ok_same e in
-    subst (IsFor geo) same (All-cons (λ line. (is_built line ≡ true) × KeepsLimits geo line.op) got others (one got refl) (rest others refl))
+    subst (IsFor geo) same (All-cons (IsLineFor geo) got others (one got refl) (rest others refl))
 
--- the lines of records are all built, and keep the limits
+-- the lines of records are all read for the geometry
 pub lines_kept : (geo : Geo) (number lists : ℕ) (rows : List (List (List ℕ))) (lines : List Line) → lines_from geo number lists rows ≡ Ok lines → IsFor geo lines
 lines_kept geo number lists [] lines e =
-    let same : [] ≡ lines = ok_same e in subst (IsFor geo) same (All-nil (λ line. (is_built line ≡ true) × KeepsLimits geo line.op))
+    let same : [] ≡ lines = ok_same e in subst (IsFor geo) same (All-nil (IsLineFor geo))
 lines_kept geo number lists (row ∷ rows) lines e =
     let result = built (line_of geo lists row) in
     then_kept geo number result (lines_from geo (number + 1) (lists_with lists result) rows) lines
-    (λ got is. built_kept geo (line_of geo lists row) got (line_kept geo lists row) is) (lines_kept geo (number + 1) (lists_with lists result) rows) e
+    (λ got is. built_kept geo (line_of geo lists row) got (line_accepted geo lists row) is) (lines_kept geo (number + 1) (lists_with lists result) rows) e

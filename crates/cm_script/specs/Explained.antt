@@ -14,7 +14,8 @@ use Rattle.cm_plain.specs.declared.receipt.MapLine.{MapLine}
 use Rattle.cm_plain.specs.States.{State}
 use Rattle.cm_plain.specs.Limits.{segment_of}
 use Rattle.cm_plain.specs.States.{Lists}
-use Rattle.cm_plain.specs.History.{Call, Legal, changes}
+use Rattle.cm_plain.specs.History.{Call, Legal, change_count}
+use Rattle.cm_script.specs.declared.limits.TheConstants.{MAX_CALLERS}
 use Rattle.cm_script.specs.declared.line.Line.{Line}
 use Rattle.cm_script.specs.declared.report.Report.{Report}
 
@@ -27,7 +28,7 @@ abbrev pub records_of_caller : List Line → ℕ → List Numbered
 records_of_caller script caller = filter (λ asked. asked.1.caller == caller) (enumerate_from 1 script)
 
 unfoldable pub records_by_caller : List Line → List Numbered
-records_by_caller script = flat_map (records_of_caller script) (range_with_len 0 64)
+records_by_caller script = flat_map (records_of_caller script) (range_with_len 0 MAX_CALLERS)
 
 -- a receipt is of a record, with this part
 pub record IsOf (geo : Geo) (asked : Numbered) (part : ℕ) (receipt : Receipt) : Type 0 where
@@ -78,6 +79,7 @@ call_at script receipt = option_map (λ line. record { op = line.op; receipt = r
 abbrev pub calls_in : List Line → List Receipt → ℕ → List Call
 calls_in script receipts segment = filter_map (call_at script) (filter (λ receipt. receipt.segment == segment) receipts)
 
+-- the line of a pair in a segment
 abbrev pub map_line : ℕ → Pair → MapLine
 map_line segment pair = record { segment = segment; key = pair.key; value = pair.value }
 
@@ -86,9 +88,9 @@ map_line segment pair = record { segment = segment; key = pair.key; value = pair
 pub record Explained (geo : Geo) (first : ℕ → State) (before : ℕ → ℕ) (script : List Line) (report : Report) : Type 0 where
   pub answered : AnswersAll geo (records_by_caller script) report.receipts
   pub states : ℕ → ℕ → State
-  pub legal : (segment : ℕ) → segment < geo.segments → Legal geo segment (first segment) (before segment) (states segment) (calls_in script report.receipts segment)
+  pub legal : (segment : ℕ) → segment < geo.segments → Legal geo segment (first segment) (before segment) (states segment) (change_count (calls_in script report.receipts segment)) (calls_in script report.receipts segment)
   pub last : ℕ → State
-  pub last_is : (segment : ℕ) → segment < geo.segments → last segment ≡ states segment (length (filter changes (calls_in script report.receipts segment)))
+  pub last_is : (segment : ℕ) → segment < geo.segments → last segment ≡ states segment (change_count (calls_in script report.receipts segment))
   pub pairs : ℕ → List Pair
   pub listed : (segment : ℕ) → segment < geo.segments → Lists (last segment) (pairs segment)
   pub map_is : report.map ≡ flat_map (λ segment. map (map_line segment) (pairs segment)) (range_with_len 0 geo.segments)

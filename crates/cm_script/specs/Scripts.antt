@@ -1,11 +1,13 @@
 -- The script of a text, or the first record that it is refused for (own; CSV is the kit's).
-use Rattle.std.specs.Prelude.{ℕ, ◌≡◌, ◌+◌, ◌^◌, ◌==◌, ◌&&◌, ◌||◌, Bool, true, false, List, [], ◌∷◌, All, length, nat_lt, nat_le, Option, Some, None, Result, Ok, Err, codes, if◌then◌else◌}
+use Rattle.std.specs.Prelude.{ℕ, ◌≡◌, ◌+◌, ◌<◌, ◌==◌, ◌&&◌, ◌||◌, Bool, true, false, List, [], ◌∷◌, All, length, nat_lt, nat_le, Option, Some, None, Result, Ok, Err, codes, if◌then◌else◌}
 use Rattle.std.specs.Str.{bytes_eq}
 use Rattle.cm_geo.specs.declared.geo.Geo.{Geo}
+use Rattle.cm_geo.specs.declared.limits.TheConstants.{MAX_KEY_BYTES, MAX_RUN_CHUNKS, MAX_VALUE_BYTES}
 use Rattle.cm_geo.specs.Need.{need}
 use Rattle.cm_plain.specs.Limits.{KeepsLimits}
 use Rattle.cm_plain.specs.declared.op.Op.{Op}
 use Rattle.cm_plain.specs.declared.op.Op.TheVariants as op
+use Rattle.cm_script.specs.declared.limits.TheConstants.{MAX_CALLERS, MAX_SCRIPT_BYTES, MAX_SCRIPT_LINES, MAX_SCRIPT_LISTS}
 use Rattle.cm_script.specs.declared.line.Line.{Line}
 use Rattle.cm_script.specs.declared.stop.LineCause.{LineCause}
 use Rattle.cm_script.specs.declared.stop.LineCause.TheVariants as cause
@@ -41,14 +43,14 @@ is_empty text = length text == 0
 
 -- a key or a prefix has too many bytes; a value has
 abbrev pub is_long_key : List ℕ → Bool
-is_long_key key = nat_lt 256 (length key)
+is_long_key key = nat_lt MAX_KEY_BYTES (length key)
 
 abbrev pub is_long_value : List ℕ → Bool
-is_long_value value = nat_lt 4096 (length value)
+is_long_value value = nat_lt MAX_VALUE_BYTES (length value)
 
 -- a key and a value that is written make an entry of too many chunks
 abbrev pub is_large : Geo → List ℕ → List ℕ → Bool
-is_large geo key value = nat_lt 64 (need geo (length key) (length value))
+is_large geo key value = nat_lt MAX_RUN_CHUNKS (need geo (length key) (length value))
 
 -- an operation on a key
 abbrev pub keyed : List ℕ → Op → Result Op LineCause
@@ -76,7 +78,7 @@ op_of geo lists verb.Remove (key ∷ []) = keyed key (op.Remove key)
 op_of geo lists verb.RemoveIf (key ∷ expected ∷ []) =
     unless (is_empty key) cause.Argument (unless (is_long_value expected) cause.TooLarge (keyed key (op.RemoveIf key expected)))
 op_of geo lists verb.Count (segment ∷ []) = in_segment (number_below geo.segments segment) (λ number. op.Count number) false
-op_of geo lists verb.List (segment ∷ []) = in_segment (number_below geo.segments segment) (λ number. op.List number) (nat_le 16 lists)
+op_of geo lists verb.List (segment ∷ []) = in_segment (number_below geo.segments segment) (λ number. op.List number) (nat_le MAX_SCRIPT_LISTS lists)
 op_of geo lists verb.Sweep (segment ∷ prefix ∷ []) = in_segment (number_below geo.segments segment) (λ number. op.Sweep number prefix) (is_long_key prefix)
 op_of geo lists _ _ = Err cause.Argument
 
@@ -93,7 +95,7 @@ line_with geo lists (Some caller) (Some verb) arguments = line_by caller (op_of 
 abbrev pub line_of : Geo → ℕ → List (List ℕ) → Result Line LineCause
 line_of geo lists (caller ∷ word ∷ argument ∷ arguments) =
     if nat_lt 2 (length arguments) then Err cause.Csv
-    else line_with geo lists (number_below 64 caller) (verb_of word) (argument ∷ arguments)
+    else line_with geo lists (number_below MAX_CALLERS caller) (verb_of word) (argument ∷ arguments)
 line_of geo lists _ = Err cause.Csv
 
 -- what isn't built yet: callers other than 0, and operations other than put and get
@@ -142,8 +144,8 @@ lines_from geo number lists (row ∷ rows) =
 -- the script of a text: its length and its number of records are tested before any record
 abbrev pub script_of : Geo → List ℕ → Result (List Line) Refusal
 script_of geo bytes =
-    if nat_lt (2 ^ 24) (length bytes) then Err too_long
-    else (if nat_lt 65536 (length (records_of bytes)) then Err too_long else lines_from geo 1 0 (records_of bytes))
+    if nat_lt MAX_SCRIPT_BYTES (length bytes) then Err too_long
+    else (if nat_lt MAX_SCRIPT_LINES (length (records_of bytes)) then Err too_long else lines_from geo 1 0 (records_of bytes))
 
 -- why there is no script; want of memory is free
 abbrev pub StopsScript : Geo → List ℕ → ScriptStop → Type 0
@@ -151,6 +153,12 @@ StopsScript geo bytes stop.TooLong = script_of geo bytes ≡ Err too_long
 StopsScript geo bytes (stop.Refused line why) = script_of geo bytes ≡ Err (refused line why)
 StopsScript geo bytes stop.NoMemory = Unit {0}
 
--- a script that was read for a geometry: each line is built and keeps the limits
+-- a line that was read for a geometry: its operation is built, its caller is one, and it keeps the limits
+pub record IsLineFor (geo : Geo) (line : Line) : Type 0 where
+  pub is_done : is_built line ≡ true
+  pub caller : line.caller < MAX_CALLERS
+  pub limits : KeepsLimits geo line.op
+
+-- a script that was read for a geometry: each line is
 abbrev pub IsFor : Geo → List Line → Type 0
-IsFor geo lines = All (λ line. (is_built line ≡ true) × KeepsLimits geo line.op) lines
+IsFor geo lines = All (IsLineFor geo) lines

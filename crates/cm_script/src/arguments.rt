@@ -6,20 +6,17 @@ ghost use Rattle.cm_script.specs.Numbers.{number_below};
 ghost use Rattle.cm_script.specs.declared.stop.LineCause.{LineCause};
 ghost use Rattle.cm_script.specs.Scripts.{in_segment, is_empty, is_large, is_long_key, is_long_value, keyed, op_of, unless, written};
 
+use crate::limits::MAX_SCRIPT_LISTS;
 use crate::number::number_below;
 use crate::stop::LineCause;
 use crate::verb::Verb;
-use cm_geo::Geo;
+use cm_geo::{Geo, MAX_KEY_BYTES, MAX_RUN_CHUNKS, MAX_VALUE_BYTES};
 use cm_plain::{Bytes, NoMemory, Op};
 use std::alloc::Global;
 
-const LONGEST_KEY: usize = 256;
+const LONGEST_KEY: usize = MAX_KEY_BYTES as usize;
 
-const LONGEST_VALUE: usize = 4096;
-
-const MOST_CHUNKS: u32 = 64;
-
-const MOST_LISTS: u32 = 16;
+const LONGEST_VALUE: usize = MAX_VALUE_BYTES as usize;
 
 // Why a record makes no line.
 #[derive(Clone, Copy, Debug)]
@@ -43,7 +40,7 @@ fn is_too_large(geo: &Geo, key: &[u8], value: &[u8]) -> bool
 {
     key.len() > LONGEST_KEY
         || value.len() > LONGEST_VALUE
-        || geo.need(key.len() as u32, value.len() as u32) > MOST_CHUNKS
+        || geo.need(key.len() as u32, value.len() as u32) > MAX_RUN_CHUNKS
 }
 
 // Refuses a key that is empty, and otherwise one with something too large about it.
@@ -124,7 +121,7 @@ fn op_of_one(
             segment: segment_of(geo, argument, false)?,
         }),
         Verb::List => Ok(Op::List {
-            segment: segment_of(geo, argument, lists >= MOST_LISTS)?,
+            segment: segment_of(geo, argument, lists >= MAX_SCRIPT_LISTS)?,
         }),
         _ => Err(LineStop::Refused(LineCause::Argument)),
     }

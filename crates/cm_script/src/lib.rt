@@ -2,6 +2,7 @@
 #![tactic(auto)]
 
 mod arguments;
+mod limits;
 mod line;
 mod number;
 mod read;
@@ -15,6 +16,7 @@ mod tests_render;
 mod text;
 mod verb;
 
+pub use limits::{MAX_CALLERS, MAX_SCRIPT_BYTES, MAX_SCRIPT_LINES, MAX_SCRIPT_LISTS};
 pub use line::{Line, Script};
 pub use read::read_script;
 pub use report::Report;

@@ -1,5 +1,6 @@
 //! A script as a list of lines.
 
+use crate::limits::MAX_SCRIPT_LINES;
 use cm_plain::Op;
 use std::marker::Model;
 
@@ -10,10 +11,7 @@ pub struct Line {
     pub op: Op,
 }
 
-/// The most records of a script.
-pub const MOST_LINES: usize = 65_536;
-
-/// The records of a script in order, at most 65,536. Contracts see the list of them; records are numbered
+/// The records of a script in order, at most `MAX_SCRIPT_LINES`. Contracts see the list of them; records are numbered
 /// from 1.
 #[derive(Drop, Debug)]
 pub struct Script {
@@ -22,21 +20,22 @@ pub struct Script {
 
 impl Model for Script {
     ghost use Rattle.std.specs.Prelude.{List, length, ◌≤◌};
+    ghost use Rattle.cm_script.specs.declared.limits.TheConstants.{MAX_SCRIPT_LINES};
     ghost use Rattle.cm_script.specs.declared.line.Line.{Line};
 
     ghost Value = { List Line };
 
     ghost view = { λ s. s.lines.items };
 
-    ghost invariant = { λ s. length s.lines.items ≤ 65536 };
+    ghost invariant = { λ s. length s.lines.items ≤ MAX_SCRIPT_LINES };
 }
 
 impl Script {
     ghost use Rattle.std.specs.Prelude.{◌≡◌, ◌==◌, ◌<◌, ◌≤◌, length, slice_get, Some, vec_len};
 
-    /// The script of these lines, of which there are at most 65,536. Takes no memory.
+    /// The script of these lines, of which there are at most `MAX_SCRIPT_LINES`. Takes no memory.
     pub fn from_vec(lines: Vec<Line>) -> Script
-        requires { vec_len lines ≤ 65536 }
+        requires { vec_len lines ≤ MAX_SCRIPT_LINES }
         ensures { result ≡ lines.items }
     {
         Script { lines }
@@ -45,7 +44,7 @@ impl Script {
     /// How many records there are.
     pub fn len(&self) -> u32
         ensures value { result ≡ length self.now }
-        ensures within_limit { result ≤ 65536 }
+        ensures within_limit { result ≤ MAX_SCRIPT_LINES }
     {
         self.lines.len() as u32
     }

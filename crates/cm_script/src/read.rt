@@ -6,6 +6,7 @@ ghost use Rattle.cm_script.specs.Scripts.{built, is_built, line_of, lines_from, 
 ghost use Rattle.cm_script.specs.declared.stop.LineCause.{LineCause};
 
 use crate::arguments::{LineStop, op_of};
+use crate::limits::{MAX_CALLERS, MAX_SCRIPT_BYTES, MAX_SCRIPT_LINES};
 use crate::line::{Line, Script};
 use crate::number::number_below;
 use crate::rows::{RowsStop, fields_of_row, read_rows};
@@ -16,16 +17,12 @@ use cm_plain::Op;
 use csv::ByteRecord;
 use std::alloc::Global;
 
-const CALLERS: u32 = 64;
-
-const MOST_BYTES: usize = 1 << 24;
-
-const MOST_FIELDS: usize = 5;
+const MAX_FIELDS: usize = 5;
 
 /// The script of a text, or why it is none. Takes memory.
 ///
 /// The text is read as CSV with no header row, and its records are numbered from 1. It may have at most
-/// 2^24 bytes and 65,536 records: `TooLong` comes before any record is looked at. Otherwise the first
+/// `MAX_SCRIPT_BYTES` and `MAX_SCRIPT_LINES`: `TooLong` comes before any record is looked at. Otherwise the first
 /// record that is refused is named, with the first cause that applies to it, in the order of
 /// `LineCause`. `NoMemory` may come at any text.
 pub fn read_script(alloc: Global, bytes: &[u8], geo: &Geo) -> Result<Script, ScriptStop>
@@ -33,7 +30,7 @@ pub fn read_script(alloc: Global, bytes: &[u8], geo: &Geo) -> Result<Script, Scr
     ensures kept { IfOk result (IsFor geo.now) }
     ensures err { IfErr result (StopsScript geo.now bytes.now) }
 {
-    if bytes.len() > MOST_BYTES {
+    if bytes.len() > MAX_SCRIPT_BYTES {
         return Err(ScriptStop::TooLong);
     }
     let rows = match read_rows(alloc, bytes) {
@@ -50,14 +47,14 @@ fn line_of(alloc: Global, geo: &Geo, lists: u32, row: &ByteRecord) -> Result<Lin
     ensures ok { IfOk result (λ line. line_of geo.now lists (fields_of row.now) ≡ Ok line) }
     ensures err { IfErr result (λ stop. (cause : LineCause) → stop ≡ LineStop.Refused cause → line_of geo.now lists (fields_of row.now) ≡ Err cause) }
 {
-    if row.len() > MOST_FIELDS {
+    if row.len() > MAX_FIELDS {
         return Err(LineStop::Refused(LineCause::Csv));
     }
     let fields = fields_of_row(alloc, row)?;
     let [caller, word, first, later @ ..] = fields.as_slice() else {
         return Err(LineStop::Refused(LineCause::Csv));
     };
-    let Some(caller) = number_below(CALLERS, *caller) else {
+    let Some(caller) = number_below(MAX_CALLERS, *caller) else {
         return Err(LineStop::Refused(LineCause::Caller));
     };
     let Some(verb) = verb_of(*word) else {
@@ -88,7 +85,7 @@ fn built_line_of(alloc: Global, geo: &Geo, lists: u32, row: &ByteRecord) -> Resu
 
 // How many `list` records there are after one more record.
 fn lists_with(lists: u32, line: &Line) -> u32
-    requires { lists ≤ 65536 }
+    requires { lists ≤ MAX_SCRIPT_LINES }
     ensures { result ≡ lists_with lists (Ok line.now) }
 {
     match line.op {
@@ -99,9 +96,9 @@ fn lists_with(lists: u32, line: &Line) -> u32
 
 // The lines of records, or the first refused one. Takes memory.
 fn lines_of(alloc: Global, geo: &Geo, rows: &[ByteRecord]) -> Result<Vec<Line>, ScriptStop>
-    requires { length rows.now ≤ 65536 }
+    requires { length rows.now ≤ MAX_SCRIPT_LINES }
     ensures ok { IfOk result (λ lines. lines_from geo.now 1 0 (map fields_of rows.now) ≡ Ok lines.items) }
-    ensures within_limit { IfOk result (λ lines. vec_len lines ≤ 65536) }
+    ensures within_limit { IfOk result (λ lines. vec_len lines ≤ MAX_SCRIPT_LINES) }
     ensures refused { IfErr result (λ stop. (line : ℕ) (cause : LineCause) → stop ≡ ScriptStop.Refused line cause → lines_from geo.now 1 0 (map fields_of rows.now) ≡ Err (refused line cause)) }
     ensures not_too_long { IfErr result (λ stop. stop ≢ ScriptStop.TooLong) }
 {

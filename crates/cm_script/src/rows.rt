@@ -4,7 +4,7 @@ ghost use Rattle.std.specs.Prelude.{◌≡◌, ◌<◌, ◌≤◌, length, IfErr
 ghost use Rattle.csv.specs.Records.{fields_of};
 ghost use Rattle.cm_script.specs.Rows.{records_of};
 
-use crate::line::MOST_LINES;
+use crate::limits::MAX_SCRIPT_LINES;
 use cm_plain::NoMemory;
 use csv::{ByteRecord, ReaderBuilder};
 use std::alloc::Global;
@@ -17,12 +17,12 @@ pub(crate) enum RowsStop {
     NoMemory,
 }
 
-// Every record of a text, if they are at most 65,536. Takes memory. Reads no further than to the record
+// Every record of a text, if a script may have so many. Takes memory. Reads no further than to the record
 // that is one too many.
 pub(crate) fn read_rows(alloc: Global, text: &[u8]) -> Result<Vec<ByteRecord>, RowsStop>
     ensures all { IfOk result (λ rows. map fields_of rows.items ≡ records_of text.now) }
-    ensures within_limit { IfOk result (λ rows. vec_len rows ≤ 65536) }
-    ensures too_long { IfErr result (λ stop. stop ≡ RowsStop.TooLong → 65536 < length (records_of text.now)) }
+    ensures within_limit { IfOk result (λ rows. vec_len rows ≤ MAX_SCRIPT_LINES) }
+    ensures too_long { IfErr result (λ stop. stop ≡ RowsStop.TooLong → MAX_SCRIPT_LINES < length (records_of text.now)) }
 {
     let reader = ReaderBuilder::new()
         .has_headers(false)
@@ -34,7 +34,7 @@ pub(crate) fn read_rows(alloc: Global, text: &[u8]) -> Result<Vec<ByteRecord>, R
         let Ok(row) = row else {
             return Err(RowsStop::NoMemory);
         };
-        if rows.len() == MOST_LINES {
+        if rows.len() == MAX_SCRIPT_LINES {
             return Err(RowsStop::TooLong);
         }
         if rows.push(row).is_err() {

@@ -5,13 +5,13 @@
 pub enum LineCause {
     /// It has fewer than three or more than five fields.
     Csv = 1,
-    /// The first field is no decimal number from 0 to 63.
+    /// The first field is no decimal number below `MAX_CALLERS`.
     Caller = 2,
     /// The second field is no operation.
     Op = 3,
     /// The operation has another number of fields, the key is empty, or there is no such segment.
     Argument = 4,
-    /// A key, a prefix, a value or an entry is too large, or there are more than 16 `list` records.
+    /// A key, a prefix, a value or an entry is too large, or there are more `list` records than a script may have.
     TooLarge = 5,
     /// The operation isn't built yet, or the caller isn't 0.
     NotYet = 7,
@@ -20,7 +20,7 @@ pub enum LineCause {
 /// Why there is no script.
 #[derive(Clone, Copy, Debug, PartialEq, Eq)]
 pub enum ScriptStop {
-    /// There are more than 2^24 bytes or more than 65,536 records.
+    /// There are more bytes or records than a script may have.
     TooLong,
     /// The first refused record, counted from 1, and the first cause that applies to it.
     Refused { line: u32, cause: LineCause },

@@ -8,6 +8,7 @@ use Rattle.csv.specs.Reading.{Reached, default_config, strip_bom}
 use Rattle.csv.specs.Records.{fields_of}
 use Rattle.csv.specs.declared.parser.State.TheVariants as st
 use Rattle.csv.proofs.ReadFacts.{rows-end, rows-more}
+use Rattle.cm_script.specs.declared.limits.TheConstants.{MAX_SCRIPT_LINES}
 use Rattle.cm_script.proofs.AllRecords.{all-records, reached-within_limit}
 use Rattle.cm_script.proofs.rows.read_rows.Goals as goal
 
@@ -48,8 +49,8 @@ loop-row-preserved c =
       reached = rw (items, map-append fields_of c.loop-row.rows.items (c.in-Ok.row ∷ [])) more.2;
     }
 
-pub returns-then-len-eq-MOST_LINES-clause-too_long : goal.returns-then-len-eq-MOST_LINES-clause-too_long
-returns-then-len-eq-MOST_LINES-clause-too_long c _ =
+pub returns-then-len-eq-MAX_SCRIPT_LINES-clause-too_long : goal.returns-then-len-eq-MAX_SCRIPT_LINES-clause-too_long
+returns-then-len-eq-MAX_SCRIPT_LINES-clause-too_long c _ =
     let inv = c.loop-row.invariant in
     let step = rw (c.in-Some.is, c.in-Ok.is) at ((c.next.ensures.steps inv.turns inv.untrimmed).0 inv.ready) in
     let rows = map fields_of c.loop-row.rows.items in
@@ -58,7 +59,7 @@ returns-then-len-eq-MOST_LINES-clause-too_long c _ =
     let text = strip_bom c.args.text.now in
     let within_limit = reached-within_limit (length text + 1) st.StartRecord text (rows ++ row ∷ []) c.next.new.self.rdr.state more.0 refl (omega arith) more.2 in
     let ok = c.loop-row.rows.ok in
-    let length_is : length rows ≡ 65536 = simp length-map (omega arith) in
+    let length_is : length rows ≡ MAX_SCRIPT_LINES = simp length-map (omega arith) in
     let last = simp length-append at within_limit in
     omega arith
 

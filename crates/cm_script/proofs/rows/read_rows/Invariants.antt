@@ -4,11 +4,12 @@ use Rattle.csv.specs.Reading.{Reached, Ready, default_config, source_of, strip_b
 use Rattle.csv.specs.Records.{fields_of}
 use Rattle.csv.specs.declared.parser.State.TheVariants as st
 use Rattle.csv.specs.declared.reader.Trim.TheVariants as trim
+use Rattle.cm_script.specs.declared.limits.TheConstants.{MAX_SCRIPT_LINES}
 use Rattle.cm_script.proofs.rows.read_rows.Given as goal
 
 abbrev pub invariant-loop-row : goal.invariant-loop-row
 invariant-loop-row l = record {
-  within_limit : vec_len l.rows ≤ 65536;
+  within_limit : vec_len l.rows ≤ MAX_SCRIPT_LINES;
   untrimmed : l.row-iterator.rdr.trim ≡ trim.None;
   ready : Ready l.row-iterator.rdr;
   turns : 0 < l.row-iterator.left;
