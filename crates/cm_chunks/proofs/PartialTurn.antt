@@ -12,10 +12,10 @@ use Rattle.cm_words.specs.Memory.{IsAllowed, Setting}
 use Rattle.cm_chunks.specs.declared.turn.Turn.{Turn}
 use Rattle.cm_chunks.specs.declared.turn.Turn.TheVariants.{Set, Clear}
 use Rattle.cm_chunks.specs.Turns.{stores_for, stores_to_clear, stores_to_set}
-use Rattle.cm_chunks.specs.RunBits.{HasCleared, HasSet, IsApart, IsInRun}
+use Rattle.cm_chunks.specs.RunBits.{HasCleared, HasSet, IsApart, IsInRun, IsRunIn}
 use Rattle.cm_chunks.proofs.Fitting.{bit_of}
 use Rattle.cm_chunks.proofs.TurnStores.{stores_one, stores_two}
-use Rattle.cm_chunks.proofs.TurnedRuns.{IsRunIn, IsTurned, bit_of_one, has_cleared, has_set, in_after, in_run_or_not, one_of_bit, other_after, out_after, run_turned, turned_at, turned_two, value_of}
+use Rattle.cm_chunks.proofs.TurnedRuns.{IsTurned, bit_of_one, has_cleared, has_set, in_after, in_run_or_not, one_of_bit, other_after, out_after, run_turned, turned_at, turned_two, value_of}
 
 -- some of the run's bits have their new value, and all others stay
 pub record IsPartTurned (turn : Turn) (geo : Geo) (run : Run) (before words : List ℕ) : Type 0 where

@@ -18,7 +18,7 @@ use Rattle.cm_words.proofs.StoreLists.{after_stores_append}
 use Rattle.cm_chunks.specs.declared.turn.Turn.{Turn}
 use Rattle.cm_chunks.specs.declared.turn.Turn.TheVariants.{Set, Clear}
 use Rattle.cm_chunks.specs.Turns.{bits_in, stores_for, stores_to_clear, stores_to_set, turn_at, turned_word}
-use Rattle.cm_chunks.specs.RunBits.{Clears, HasCleared, HasSet, IsApart, IsInRun, LeadsCleared, LeadsSet, Sets}
+use Rattle.cm_chunks.specs.RunBits.{Clears, HasCleared, HasSet, IsApart, IsInRun, IsRunIn, LeadsCleared, LeadsSet, Sets}
 use Rattle.cm_words.proofs.ListChanges.{changes_as}
 use Rattle.cm_chunks.proofs.WordBits.{one_of_set, power_grows, set_of_one}
 use Rattle.cm_chunks.proofs.Fitting.{bit_of}
@@ -124,13 +124,6 @@ pub record IsTurned (turn : Turn) (geo : Geo) (run : Run) (before words : List �
   pub inside : (place chunk : ℕ) → chunk < geo.chunks → IsInRun run place chunk → bit_of geo words place chunk ≡ value_of turn
   pub outside : (place chunk : ℕ) → chunk < geo.chunks → (IsInRun run place chunk → ⊥) → bit_of geo words place chunk ≡ bit_of geo before place chunk
   pub others : (at : ℕ) → IsApart geo run at → get_or words at 0 ≡ get_or before at 0
-
--- the run lies in its tier
-pub record IsRunIn (geo : Geo) (run : Run) : Type 0 where
-  pub place_inside : run.place < geo.tiers
-  pub nonzero : 1 ≤ run.chunks
-  pub within_limit : run.chunks ≤ 64
-  pub inside : run.chunk + run.chunks ≤ geo.chunks
 
 turned_one : (turn : Turn) (geo : Geo) (run : Run) (words : List ℕ) → length words ≡ words_in_segment geo → IsRunIn geo run → run.chunk % 64 + run.chunks ≤ 64 → IsTurned turn geo run words (turned_at turn geo run (run.chunk / 64) words)
 turned_one turn geo run words length_is is_run in_one_word =

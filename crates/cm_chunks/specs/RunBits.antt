@@ -10,6 +10,13 @@ use Rattle.cm_words.specs.Effects.{Changes}
 use Rattle.cm_words.specs.Stores.{Leads}
 use Rattle.cm_chunks.specs.Turns.{stores_to_clear, stores_to_set}
 
+-- a run of 1 to as many chunks as an entry may have lies in its tier
+pub record IsRunIn (geo : Geo) (run : Run) : Type 0 where
+  pub place_inside : run.place < geo.tiers
+  pub nonzero : 1 ≤ run.chunks
+  pub within_limit : run.chunks ≤ 64
+  pub inside : run.chunk + run.chunks ≤ geo.chunks
+
 -- a chunk of a tier lies in a run
 pub record IsInRun (run : Run) (place chunk : ℕ) : Type 0 where
   pub place_is : place ≡ run.place

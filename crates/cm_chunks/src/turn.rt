@@ -5,7 +5,7 @@ ghost use Rattle.cm_words.specs.Effects.{Reads};
 ghost use Rattle.cm_words.specs.Stores.{MayStoreEach, WritesEach, WritesPrefixEach};
 ghost use Rattle.cm_words.specs.Calls.{IsWritable, Performs, StoresEach};
 ghost use Rattle.cm_chunks.specs.Turns.{bit_words_of, bits_in, stores_for, stores_to_clear, stores_to_set, turn_at, turned_word};
-ghost use Rattle.cm_chunks.specs.RunBits.{Clears, Sets};
+ghost use Rattle.cm_chunks.specs.RunBits.{Clears, IsRunIn, Sets};
 
 use crate::bits::bits_between;
 use cm_geo::Geo;
@@ -58,10 +58,7 @@ fn turn_word<M: Mem>(
 /// Sets or clears the bits of a run, the lower bit word first.
 fn turn_run<M: Mem>(mem: &mut M, geo: &Geo, run: Run, turn: Turn) -> Result<(), Dead>
     requires writable { IsWritable (M.seen mem.old) geo.now }
-    requires place { run.place < geo.now.tiers }
-    requires nonzero { 1 ≤ run.chunks }
-    requires within_limit { run.chunks ≤ 64 }
-    requires inside { run.chunk + run.chunks ≤ geo.now.chunks }
+    requires run { IsRunIn geo.now run }
     requires allowed { MayStoreEach (M.seen mem.old) (stores_for turn geo.now run) }
     ensures stores { StoresEach M.seen M.same_rest (stores_for turn geo.now run) mem.old mem.new result }
     ensures count { OnOk result ((M.seen mem.new).meter.events ≡ (M.seen mem.old).meter.events + 2 * length (bit_words_of run)) }
@@ -81,10 +78,7 @@ fn turn_run<M: Mem>(mem: &mut M, geo: &Geo, run: Run, turn: Turn) -> Result<(), 
 /// Sets the bits of a run of 1 to 64 chunks; all other bits stay.
 pub fn set<M: Mem>(mem: &mut M, geo: &Geo, run: Run) -> Result<(), Dead>
     requires writable { IsWritable (M.seen mem.old) geo.now }
-    requires place { run.place < geo.now.tiers }
-    requires nonzero { 1 ≤ run.chunks }
-    requires within_limit { run.chunks ≤ 64 }
-    requires inside { run.chunk + run.chunks ≤ geo.now.chunks }
+    requires run { IsRunIn geo.now run }
     requires allowed { MayStoreEach (M.seen mem.old) (stores_to_set geo.now run) }
     ensures stores { Performs M.seen M.same_rest (λ old now. Sets old now geo.now run)
         (λ old now. WritesPrefixEach old now (stores_to_set geo.now run)) mem.old mem.new result }
@@ -97,10 +91,7 @@ pub fn set<M: Mem>(mem: &mut M, geo: &Geo, run: Run) -> Result<(), Dead>
 /// Clears the bits of a run of 1 to 64 chunks; all other bits stay.
 pub fn clear<M: Mem>(mem: &mut M, geo: &Geo, run: Run) -> Result<(), Dead>
     requires writable { IsWritable (M.seen mem.old) geo.now }
-    requires place { run.place < geo.now.tiers }
-    requires nonzero { 1 ≤ run.chunks }
-    requires within_limit { run.chunks ≤ 64 }
-    requires inside { run.chunk + run.chunks ≤ geo.now.chunks }
+    requires run { IsRunIn geo.now run }
     requires allowed { MayStoreEach (M.seen mem.old) (stores_to_clear geo.now run) }
     ensures stores { Performs M.seen M.same_rest (λ old now. Clears old now geo.now run)
         (λ old now. WritesPrefixEach old now (stores_to_clear geo.now run)) mem.old mem.new result }

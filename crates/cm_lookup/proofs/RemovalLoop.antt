@@ -6,7 +6,8 @@ use Rattle.cm_geo.specs.Addresses.{slot_at, words_in_segment}
 use Rattle.cm_plain.specs.Changes.{Change}
 use Rattle.cm_geo.specs.Hash.{home_in}
 use Rattle.cm_geo.proofs.AddressOrder.{slot_in_range}
-use Rattle.cm_geo.proofs.Ranges.{chunks_range, mask_of_chunks, tiers_range}
+use Rattle.cm_geo.proofs.Powers.{mask_of_slots}
+use Rattle.cm_geo.proofs.Ranges.{chunks_range, tiers_range}
 use Rattle.cm_plain.specs.Lawful.{slot_behind, steps_between}
 use Rattle.cm_words.specs.Memory.{FitsNotes, IsAllowed, MayStore, MemSeen, Setting, origin}
 use Rattle.cm_words.specs.Effects.{Knows, Reads}
@@ -210,7 +211,7 @@ behind_inner geo place first slots slot steps first_is slots_is = rw (at_behind_
 
 -- the home of a word's fingerprint, by the code's mask
 pub home_by : (geo : Geo) (slots word : ℕ) → slots ≡ 2 * geo.chunks → bit_and (word / 2 ^ 32) (slots - 1) ≡ home_in geo (word / 2 ^ 32)
-home_by geo slots word slots_is = rw slots_is (mask_of_chunks (word / 2 ^ 32) geo.chunks geo.chunks_fit)
+home_by geo slots word slots_is = rw slots_is (mask_of_slots (word / 2 ^ 32) geo.chunks geo.chunks_fit)
 
 -- the code's test, by its mask
 way_test : (geo : Geo) (slots slot steps at home word : ℕ) → slots ≡ 2 * geo.chunks → at ≡ slot_behind (2 * geo.chunks) slot steps → home ≡ home_in geo (word / 2 ^ 32)

@@ -22,6 +22,11 @@ slot_words geo words place = map (λ slot. word_at words (slot_at geo place slot
 abbrev pub at_slots : Geo → ℕ → List WordStore → List WordStore
 at_slots geo place stores = map (λ store. store_at (slot_at geo place store.at) store.word) stores
 
+-- the geometry has this slot in a tier at this place
+pub record IsSlot (geo : Geo) (place slot : ℕ) : Type 0 where
+  pub place_inside : place < geo.tiers
+  pub slot_inside : slot < 2 * geo.chunks
+
 -- the word of a slot that points to a chunk
 abbrev pub slot_word : ℕ → ℕ → ℕ
 slot_word fingerprint chunk = fingerprint * 2 ^ 32 + chunk + 1

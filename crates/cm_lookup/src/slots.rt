@@ -1,13 +1,13 @@
 //! Reading and storing the slots of a tier.
 
-ghost use Rattle.std.specs.Prelude.{◌≡◌, ◌*◌, ◌<◌, IfOk, List, ℕ};
+ghost use Rattle.std.specs.Prelude.{◌<◌, IfOk, List, ℕ};
 ghost use Rattle.cm_geo.specs.Addresses.{slot_at};
 ghost use Rattle.cm_plain.specs.Slots.{word_at};
 ghost use Rattle.cm_words.specs.Memory.{FitsNotes, MayStore};
 ghost use Rattle.cm_words.specs.Calls.{IsReadable, IsWritable, LoadsOnce, Performs, StoresOnce};
 ghost use Rattle.cm_lookup.specs.Probing.{AreHalves};
 ghost use Rattle.cm_lookup.specs.Removals.{MayShift, Removes, ShiftsPart};
-ghost use Rattle.cm_lookup.specs.Tiers.{slot_word};
+ghost use Rattle.cm_lookup.specs.Tiers.{IsSlot, slot_word};
 
 use crate::hit::SlotParts;
 use cm_geo::Geo;
@@ -16,8 +16,7 @@ use cm_words::{Dead, Mem};
 /// The two halves of a slot's word.
 pub fn slot_of<M: Mem>(mem: &mut M, geo: &Geo, place: u32, slot: u32) -> Result<SlotParts, Dead>
     requires readable { IsReadable (M.seen mem.old) geo.now }
-    requires place { place < geo.now.tiers }
-    requires slot { slot < 2 * geo.now.chunks }
+    requires slot { IsSlot geo.now place slot }
     ensures loads { LoadsOnce M.seen M.same_rest mem.old mem.new result }
     ensures parts { IfOk result (λ parts. (words : List ℕ) → FitsNotes (M.seen mem.new) words
         → AreHalves (word_at words (slot_at geo.now place slot)) parts) }
@@ -40,8 +39,7 @@ pub fn put_slot<M: Mem>(
     chunk: u32,
 ) -> Result<(), Dead>
     requires writable { IsWritable (M.seen mem.old) geo.now }
-    requires place { place < geo.now.tiers }
-    requires slot { slot < 2 * geo.now.chunks }
+    requires slot { IsSlot geo.now place slot }
     requires chunk { chunk < geo.now.chunks }
     requires allowed { MayStore (M.seen mem.old) (slot_at geo.now place slot) (slot_word fingerprint chunk) }
     ensures { StoresOnce M.seen M.same_rest (slot_at geo.now place slot) (slot_word fingerprint chunk) mem.old mem.new result }
@@ -60,8 +58,7 @@ pub fn put_slot<M: Mem>(
 #[tactic(auto, using(crate::proofs::Tiers::slot_inner))]
 pub fn remove_at<M: Mem>(mem: &mut M, geo: &Geo, place: u32, slot: u32) -> Result<(), Dead>
     requires writable { IsWritable (M.seen mem.old) geo.now }
-    requires place { place < geo.now.tiers }
-    requires slot { slot < 2 * geo.now.chunks }
+    requires slot { IsSlot geo.now place slot }
     requires allowed { MayShift (M.seen mem.old) geo.now place slot }
     ensures { Performs M.seen M.same_rest (λ old now. Removes old now geo.now place slot)
         (λ old now. ShiftsPart old now geo.now place slot) mem.old mem.new result }

@@ -13,5 +13,5 @@ returns-clause-stores g c =
     ends_ok g.M.Mem.seen g.M.Mem.same_rest (λ old now. Clears old now c.args.geo.now c.args.run) (λ old now. WritesPrefixEach old now (stores_to_clear c.args.geo.now c.args.run)) _ c.turn_run.new.mem _ (record {
       rest = c.in_ok-turn_run.ensures.stores.rest;
       survives = c.in_ok-turn_run.ensures.stores.fuse.survives;
-      done = clears_run (g.M.Mem.seen c.args.mem.now) _ c.args.geo.now c.args.run c.requires.writable.geo_is (record { place_inside = c.requires.place; nonzero = c.requires.nonzero; within_limit = c.requires.within_limit; inside = c.requires.inside }) c.in_ok-turn_run.ensures.stores.done;
+      done = clears_run (g.M.Mem.seen c.args.mem.now) _ c.args.geo.now c.args.run c.requires.writable.geo_is c.requires.run c.in_ok-turn_run.ensures.stores.done;
     })

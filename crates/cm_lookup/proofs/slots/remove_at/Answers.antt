@@ -21,11 +21,11 @@ loop-steps-init g c = record {
 
 pub overflow_add-first : goal.overflow_add-first
 overflow_add-first g c =
-    let within = behind_in_range (g.M.Mem.seen c.args.mem.now) c.args.geo.now c.args.place c.slot_at-first.result (2 * c.chunks-slots.result) c.args.slot c.loop-steps.steps c.requires.place c.requires.writable.geo_is c.loop-steps.invariant.first_is c.loop-steps.invariant.slots_are in
+    let within = behind_in_range (g.M.Mem.seen c.args.mem.now) c.args.geo.now c.args.place c.slot_at-first.result (2 * c.chunks-slots.result) c.args.slot c.loop-steps.steps c.requires.slot.place_inside c.requires.writable.geo_is c.loop-steps.invariant.first_is c.loop-steps.invariant.slots_are in
     omega (arith, within, segment_limit (g.M.Mem.seen c.args.mem.now).setting.geo)
 
 pub load-requires-clause-in_range : goal.load-requires-clause-in_range
-load-requires-clause-in_range g c = behind_in_range (g.M.Mem.seen c.loop-steps.mem) c.args.geo.now c.args.place c.slot_at-first.result (2 * c.chunks-slots.result) c.args.slot c.loop-steps.steps c.requires.place (ap (λ (s : Setting). s.geo) c.loop-steps.invariant.so_far.done.kept.setting ∙ c.requires.writable.geo_is) c.loop-steps.invariant.first_is c.loop-steps.invariant.slots_are
+load-requires-clause-in_range g c = behind_in_range (g.M.Mem.seen c.loop-steps.mem) c.args.geo.now c.args.place c.slot_at-first.result (2 * c.chunks-slots.result) c.args.slot c.loop-steps.steps c.requires.slot.place_inside (ap (λ (s : Setting). s.geo) c.loop-steps.invariant.so_far.done.kept.setting ∙ c.requires.writable.geo_is) c.loop-steps.invariant.first_is c.loop-steps.invariant.slots_are
 
 pub returns-in_err-word : goal.returns-in_err-word
 returns-in_err-word g c =
@@ -34,11 +34,11 @@ returns-in_err-word g c =
 
 pub overflow_add-first-then-word-eq0 : goal.overflow_add-first-then-word-eq0
 overflow_add-first-then-word-eq0 g c =
-    let within = behind_in_range (g.M.Mem.seen c.args.mem.now) c.args.geo.now c.args.place c.slot_at-first.result (2 * c.chunks-slots.result) c.args.slot c.loop-steps.hole c.requires.place c.requires.writable.geo_is c.loop-steps.invariant.first_is c.loop-steps.invariant.slots_are in
+    let within = behind_in_range (g.M.Mem.seen c.args.mem.now) c.args.geo.now c.args.place c.slot_at-first.result (2 * c.chunks-slots.result) c.args.slot c.loop-steps.hole c.requires.slot.place_inside c.requires.writable.geo_is c.loop-steps.invariant.first_is c.loop-steps.invariant.slots_are in
     omega (arith, within, segment_limit (g.M.Mem.seen c.args.mem.now).setting.geo)
 
 pub store-requires-clause-in_range : goal.store-requires-clause-in_range
-store-requires-clause-in_range g c = behind_in_range (g.M.Mem.seen c.load.new.self) c.args.geo.now c.args.place c.slot_at-first.result (2 * c.chunks-slots.result) c.args.slot c.loop-steps.hole c.requires.place (ap (λ (s : Setting). s.geo) (keeps_transitive _ _ _ c.loop-steps.invariant.so_far.done.kept c.in_ok-word.ensures.loads.call.done.kept).setting ∙ c.requires.writable.geo_is) c.loop-steps.invariant.first_is c.loop-steps.invariant.slots_are
+store-requires-clause-in_range g c = behind_in_range (g.M.Mem.seen c.load.new.self) c.args.geo.now c.args.place c.slot_at-first.result (2 * c.chunks-slots.result) c.args.slot c.loop-steps.hole c.requires.slot.place_inside (ap (λ (s : Setting). s.geo) (keeps_transitive _ _ _ c.loop-steps.invariant.so_far.done.kept c.in_ok-word.ensures.loads.call.done.kept).setting ∙ c.requires.writable.geo_is) c.loop-steps.invariant.first_is c.loop-steps.invariant.slots_are
 
 pub store-requires-clause-inner : goal.store-requires-clause-inner
 store-requires-clause-inner g c = behind_inner c.args.geo.now c.args.place c.slot_at-first.result (2 * c.chunks-slots.result) c.args.slot c.loop-steps.hole c.loop-steps.invariant.first_is c.loop-steps.invariant.slots_are
@@ -46,7 +46,7 @@ store-requires-clause-inner g c = behind_inner c.args.geo.now c.args.place c.slo
 pub store-requires-clause-allowed : goal.store-requires-clause-allowed
 store-requires-clause-allowed g c =
     may_end (g.M.Mem.seen c.args.mem.now) (g.M.Mem.seen c.load.new.self) c.args.geo.now c.args.place c.args.slot c.loop-steps.hole c.loop-steps.steps _ _ c.in_ok-word.word
-    (record { geo_is = c.requires.writable.geo_is; place_inside = c.requires.place; slot_inside = c.requires.slot }) c.requires.allowed
+    (record { geo_is = c.requires.writable.geo_is; place_inside = c.requires.slot.place_inside; slot_inside = c.requires.slot.slot_inside }) c.requires.allowed
     (shifted_reads (g.M.Mem.seen c.args.mem.now) (g.M.Mem.seen c.loop-steps.mem) (g.M.Mem.seen c.load.new.self) c.args.geo.now c.args.place c.args.slot c.loop-steps.hole c.loop-steps.steps c.loop-steps.invariant.so_far.done c.in_ok-word.ensures.loads.call.done)
     (omega arith) (at_behind_from c.args.geo.now c.args.place c.slot_at-first.result (2 * c.chunks-slots.result) c.args.slot c.loop-steps.steps c.loop-steps.invariant.first_is c.loop-steps.invariant.slots_are) (at_behind_from c.args.geo.now c.args.place c.slot_at-first.result (2 * c.chunks-slots.result) c.args.slot c.loop-steps.hole c.loop-steps.invariant.first_is c.loop-steps.invariant.slots_are)
     c.in_ok-word.ensures.word c.if-word-eq0.true
@@ -63,17 +63,17 @@ returns-then-word-eq0 g c =
     (done_then g.M.Mem.seen g.M.Mem.same_rest (λ old now. Shifted old now c.args.geo.now c.args.place c.args.slot c.loop-steps.hole c.loop-steps.steps) (λ old now. Writes old now (store_at _ 0 ∷ [])) (λ old now. Removes old now c.args.geo.now c.args.place c.args.slot) _ c.load.new.self _ (g.met.M.Mem.rest_transitive _ _ _)
     (done_then g.M.Mem.seen g.M.Mem.same_rest (λ old now. Shifted old now c.args.geo.now c.args.place c.args.slot c.loop-steps.hole c.loop-steps.steps) Reads (λ old now. Shifted old now c.args.geo.now c.args.place c.args.slot c.loop-steps.hole c.loop-steps.steps) _ c.loop-steps.mem _ (g.met.M.Mem.rest_transitive _ _ _) c.loop-steps.invariant.so_far (done_by g.M.Mem.seen g.M.Mem.same_rest Reads IsAsBefore _ _ _ c.in_ok-word.ensures.loads.call) (λ shifted reads. shifted_reads _ _ _ c.args.geo.now c.args.place c.args.slot c.loop-steps.hole c.loop-steps.steps shifted reads)) (done_by g.M.Mem.seen g.M.Mem.same_rest _ IsAsBefore _ _ _ c.in_ok-store.ensures.stores.call)
     (λ shifted writes. removes_end (g.M.Mem.seen c.args.mem.now) (g.M.Mem.seen c.load.new.self) (g.M.Mem.seen c.store.new.self) c.args.geo.now c.args.place c.args.slot c.loop-steps.hole c.loop-steps.steps _ _ c.in_ok-word.word
-    (record { geo_is = c.requires.writable.geo_is; place_inside = c.requires.place; slot_inside = c.requires.slot }) shifted
+    (record { geo_is = c.requires.writable.geo_is; place_inside = c.requires.slot.place_inside; slot_inside = c.requires.slot.slot_inside }) shifted
     (omega arith) (at_behind_from c.args.geo.now c.args.place c.slot_at-first.result (2 * c.chunks-slots.result) c.args.slot c.loop-steps.steps c.loop-steps.invariant.first_is c.loop-steps.invariant.slots_are) (at_behind_from c.args.geo.now c.args.place c.slot_at-first.result (2 * c.chunks-slots.result) c.args.slot c.loop-steps.hole c.loop-steps.invariant.first_is c.loop-steps.invariant.slots_are)
     c.in_ok-word.ensures.word c.if-word-eq0.true writes))
 
 pub overflow_add-first-then-steps-way : goal.overflow_add-first-then-steps-way
 overflow_add-first-then-steps-way g c =
-    let within = behind_in_range (g.M.Mem.seen c.args.mem.now) c.args.geo.now c.args.place c.slot_at-first.result (2 * c.chunks-slots.result) c.args.slot c.loop-steps.hole c.requires.place c.requires.writable.geo_is c.loop-steps.invariant.first_is c.loop-steps.invariant.slots_are in
+    let within = behind_in_range (g.M.Mem.seen c.args.mem.now) c.args.geo.now c.args.place c.slot_at-first.result (2 * c.chunks-slots.result) c.args.slot c.loop-steps.hole c.requires.slot.place_inside c.requires.writable.geo_is c.loop-steps.invariant.first_is c.loop-steps.invariant.slots_are in
     omega (arith, within, segment_limit (g.M.Mem.seen c.args.mem.now).setting.geo)
 
 pub store-requires-then-steps-way-clause-in_range : goal.store-requires-then-steps-way-clause-in_range
-store-requires-then-steps-way-clause-in_range g c = behind_in_range (g.M.Mem.seen c.load.new.self) c.args.geo.now c.args.place c.slot_at-first.result (2 * c.chunks-slots.result) c.args.slot c.loop-steps.hole c.requires.place (ap (λ (s : Setting). s.geo) (keeps_transitive _ _ _ c.loop-steps.invariant.so_far.done.kept c.in_ok-word.ensures.loads.call.done.kept).setting ∙ c.requires.writable.geo_is) c.loop-steps.invariant.first_is c.loop-steps.invariant.slots_are
+store-requires-then-steps-way-clause-in_range g c = behind_in_range (g.M.Mem.seen c.load.new.self) c.args.geo.now c.args.place c.slot_at-first.result (2 * c.chunks-slots.result) c.args.slot c.loop-steps.hole c.requires.slot.place_inside (ap (λ (s : Setting). s.geo) (keeps_transitive _ _ _ c.loop-steps.invariant.so_far.done.kept c.in_ok-word.ensures.loads.call.done.kept).setting ∙ c.requires.writable.geo_is) c.loop-steps.invariant.first_is c.loop-steps.invariant.slots_are
 
 pub store-requires-then-steps-way-clause-inner : goal.store-requires-then-steps-way-clause-inner
 store-requires-then-steps-way-clause-inner g c = behind_inner c.args.geo.now c.args.place c.slot_at-first.result (2 * c.chunks-slots.result) c.args.slot c.loop-steps.hole c.loop-steps.invariant.first_is c.loop-steps.invariant.slots_are
@@ -81,7 +81,7 @@ store-requires-then-steps-way-clause-inner g c = behind_inner c.args.geo.now c.a
 pub store-requires-then-steps-way-clause-allowed : goal.store-requires-then-steps-way-clause-allowed
 store-requires-then-steps-way-clause-allowed g c =
     may_move (g.M.Mem.seen c.args.mem.now) (g.M.Mem.seen c.load.new.self) c.args.geo.now c.args.place c.args.slot c.loop-steps.hole c.loop-steps.steps _ _ c.in_ok-word.word
-    (record { geo_is = c.requires.writable.geo_is; place_inside = c.requires.place; slot_inside = c.requires.slot }) c.requires.allowed
+    (record { geo_is = c.requires.writable.geo_is; place_inside = c.requires.slot.place_inside; slot_inside = c.requires.slot.slot_inside }) c.requires.allowed
     (shifted_reads (g.M.Mem.seen c.args.mem.now) (g.M.Mem.seen c.loop-steps.mem) (g.M.Mem.seen c.load.new.self) c.args.geo.now c.args.place c.args.slot c.loop-steps.hole c.loop-steps.steps c.loop-steps.invariant.so_far.done c.in_ok-word.ensures.loads.call.done)
     (omega arith) (at_behind_from c.args.geo.now c.args.place c.slot_at-first.result (2 * c.chunks-slots.result) c.args.slot c.loop-steps.steps c.loop-steps.invariant.first_is c.loop-steps.invariant.slots_are) (at_behind_from c.args.geo.now c.args.place c.slot_at-first.result (2 * c.chunks-slots.result) c.args.slot c.loop-steps.hole c.loop-steps.invariant.first_is c.loop-steps.invariant.slots_are)
     c.in_ok-word.ensures.word c.if-word-eq0.false
@@ -103,7 +103,7 @@ loop-steps-preserved g c = elim c.if-steps-way.branch [
         (done_then g.M.Mem.seen g.M.Mem.same_rest (λ old now. Shifted old now c.args.geo.now c.args.place c.args.slot c.loop-steps.hole c.loop-steps.steps) (λ old now. Writes old now (store_at _ c.in_ok-word.word ∷ [])) (λ old now. Shifted old now c.args.geo.now c.args.place c.args.slot c.loop-steps.steps (c.loop-steps.steps + 1)) _ c.load.new.self _ (g.met.M.Mem.rest_transitive _ _ _)
         (done_then g.M.Mem.seen g.M.Mem.same_rest (λ old now. Shifted old now c.args.geo.now c.args.place c.args.slot c.loop-steps.hole c.loop-steps.steps) Reads (λ old now. Shifted old now c.args.geo.now c.args.place c.args.slot c.loop-steps.hole c.loop-steps.steps) _ c.loop-steps.mem _ (g.met.M.Mem.rest_transitive _ _ _) c.loop-steps.invariant.so_far (done_by g.M.Mem.seen g.M.Mem.same_rest Reads IsAsBefore _ _ _ c.in_ok-word.ensures.loads.call) (λ shifted reads. shifted_reads _ _ _ c.args.geo.now c.args.place c.args.slot c.loop-steps.hole c.loop-steps.steps shifted reads)) (done_by g.M.Mem.seen g.M.Mem.same_rest _ IsAsBefore _ _ _ w.in_ok-store-2.ensures.stores.call)
         (λ shifted writes. shifted_moves (g.M.Mem.seen c.args.mem.now) (g.M.Mem.seen c.load.new.self) (g.M.Mem.seen w.store-then-steps-way.new.self) c.args.geo.now c.args.place c.args.slot c.loop-steps.hole c.loop-steps.steps _ _ c.in_ok-word.word
-        (record { geo_is = c.requires.writable.geo_is; place_inside = c.requires.place; slot_inside = c.requires.slot }) shifted
+        (record { geo_is = c.requires.writable.geo_is; place_inside = c.requires.slot.place_inside; slot_inside = c.requires.slot.slot_inside }) shifted
         (omega arith) (at_behind_from c.args.geo.now c.args.place c.slot_at-first.result (2 * c.chunks-slots.result) c.args.slot c.loop-steps.steps c.loop-steps.invariant.first_is c.loop-steps.invariant.slots_are) (at_behind_from c.args.geo.now c.args.place c.slot_at-first.result (2 * c.chunks-slots.result) c.args.slot c.loop-steps.hole c.loop-steps.invariant.first_is c.loop-steps.invariant.slots_are)
         c.in_ok-word.ensures.word c.if-word-eq0.false
         (goes_by c.args.geo.now (2 * c.chunks-slots.result) c.args.slot c.loop-steps.hole c.loop-steps.steps _ _ c.in_ok-word.word c.loop-steps.invariant.slots_are (at_behind c.args.geo.now (2 * c.chunks-slots.result) c.args.slot c.loop-steps.steps c.loop-steps.invariant.slots_are) (home_by c.args.geo.now (2 * c.chunks-slots.result) c.in_ok-word.word c.loop-steps.invariant.slots_are) w.if-steps-way.true)
@@ -116,7 +116,7 @@ loop-steps-preserved g c = elim c.if-steps-way.branch [
     so_far = rw (w.mem-is, w.hole-is)
         (done_then g.M.Mem.seen g.M.Mem.same_rest (λ old now. Shifted old now c.args.geo.now c.args.place c.args.slot c.loop-steps.hole c.loop-steps.steps) Reads (λ old now. Shifted old now c.args.geo.now c.args.place c.args.slot c.loop-steps.hole (c.loop-steps.steps + 1)) _ c.loop-steps.mem _ (g.met.M.Mem.rest_transitive _ _ _) c.loop-steps.invariant.so_far (done_by g.M.Mem.seen g.M.Mem.same_rest Reads IsAsBefore _ _ _ c.in_ok-word.ensures.loads.call)
         (λ shifted reads. shifted_stays (g.M.Mem.seen c.args.mem.now) (g.M.Mem.seen c.load.new.self) c.args.geo.now c.args.place c.args.slot c.loop-steps.hole c.loop-steps.steps _ c.in_ok-word.word
-        (record { geo_is = c.requires.writable.geo_is; place_inside = c.requires.place; slot_inside = c.requires.slot }) (shifted_reads _ _ _ c.args.geo.now c.args.place c.args.slot c.loop-steps.hole c.loop-steps.steps shifted reads)
+        (record { geo_is = c.requires.writable.geo_is; place_inside = c.requires.slot.place_inside; slot_inside = c.requires.slot.slot_inside }) (shifted_reads _ _ _ c.args.geo.now c.args.place c.args.slot c.loop-steps.hole c.loop-steps.steps shifted reads)
         (omega arith) (at_behind_from c.args.geo.now c.args.place c.slot_at-first.result (2 * c.chunks-slots.result) c.args.slot c.loop-steps.steps c.loop-steps.invariant.first_is c.loop-steps.invariant.slots_are)
         c.in_ok-word.ensures.word c.if-word-eq0.false
         (stays_by c.args.geo.now (2 * c.chunks-slots.result) c.args.slot c.loop-steps.hole c.loop-steps.steps _ _ c.in_ok-word.word c.loop-steps.invariant.slots_are (at_behind c.args.geo.now (2 * c.chunks-slots.result) c.args.slot c.loop-steps.steps c.loop-steps.invariant.slots_are) (home_by c.args.geo.now (2 * c.chunks-slots.result) c.in_ok-word.word c.loop-steps.invariant.slots_are) w.if-steps-way.false)));
@@ -130,5 +130,5 @@ returns g c =
       rest = c.loop-steps.invariant.so_far.rest;
       survives = c.loop-steps.invariant.so_far.survives;
       done =
-          removes_round (g.M.Mem.seen c.args.mem.now) (g.M.Mem.seen c.loop-steps.mem) c.args.geo.now c.args.place c.args.slot c.loop-steps.hole c.loop-steps.steps (record { geo_is = c.requires.writable.geo_is; place_inside = c.requires.place; slot_inside = c.requires.slot }) c.loop-steps.invariant.so_far.done (omega arith);
+          removes_round (g.M.Mem.seen c.args.mem.now) (g.M.Mem.seen c.loop-steps.mem) c.args.geo.now c.args.place c.args.slot c.loop-steps.hole c.loop-steps.steps (record { geo_is = c.requires.writable.geo_is; place_inside = c.requires.slot.place_inside; slot_inside = c.requires.slot.slot_inside }) c.loop-steps.invariant.so_far.done (omega arith);
     })
