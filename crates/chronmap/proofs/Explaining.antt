@@ -123,7 +123,7 @@ pub explains : (geo : Geo) (script : List Line) (at : ℕ) (receipts : List Rece
 explains geo script at receipts now lines extra one kept whole ran maps extra_is =
     let calls = calls_in script receipts 0 in
     let h = ran.calls.history in
-    let first = all_of_first script (All-weaker (IsLineFor geo) (λ line. line.caller ≡ 0) (λ line k. (is_plain line k.is_done).caller_is) script kept) in
+    let first = all_of_first script (All-weaker (IsLineFor geo) (λ line. line.caller ≡ 0) (λ line k. (is_plain line k.is_built_line).caller_is) script kept) in
     let all : enumerate_from 1 (take at script) ≡ enumerate_from 1 script = ap (enumerate_from 1) (take_all at script whole) in
     record {
       answered = rw first (rw all at ran.answered);

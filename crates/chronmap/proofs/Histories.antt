@@ -14,8 +14,8 @@ use Rattle.cm_plain.specs.declared.reply.Reply.{Reply}
 use Rattle.cm_plain.specs.declared.reply.Reply.TheVariants as reply
 use Rattle.cm_plain.specs.States.{State, one_tier}
 use Rattle.cm_plain.specs.Steps.{Step, is_change}
-use Rattle.cm_plain.specs.History.{Call, IsIn, KeepsOrder, Legal, change_count, changes, granted}
-use Rattle.cm_plain.specs.Segments.{Answered, Segment}
+use Rattle.cm_plain.specs.History.{Call, IsInHistory, KeepsOrder, Legal, change_count, is_changing, grant_of}
+use Rattle.cm_plain.specs.Segments.{AnswersOp, Segment}
 use Rattle.chronmap.proofs.Regrant.{as_granted, unchanged_state}
 
 -- the state after so many changes
@@ -27,7 +27,7 @@ abbrev pub Stands : Geo → List State → Bool → Call → Type 0
 Stands geo hist true call =
     (i : ℕ) × (i + 1 < length hist) × (call.receipt.number ≡ 0 + i + 1) × Step geo 0 (state_at hist i) (0 + i) true call.op (state_at hist (i + 1)) call.receipt.reply
 Stands geo hist false call =
-    (i : ℕ) × (i < length hist) × (call.receipt.number ≡ 0 + i) × Step geo 0 (state_at hist i) (0 + i) (granted call.receipt.reply) call.op (state_at hist i) call.receipt.reply
+    (i : ℕ) × (i < length hist) × (call.receipt.number ≡ 0 + i) × Step geo 0 (state_at hist i) (0 + i) (grant_of call.receipt.reply) call.op (state_at hist i) call.receipt.reply
 
 -- what was answered so far is a history that leads to the segment as it is now
 pub record History (geo : Geo) (calls : List Call) (hist : List State) (now : Segment) : Type 0 where
@@ -37,8 +37,8 @@ pub record History (geo : Geo) (calls : List Call) (hist : List State) (now : Se
   pub first : state_at hist 0 ≡ one_tier
   pub last : state_at hist (change_count calls) ≡ now.state
   pub number_is : now.number ≡ change_count calls
-  pub numbers : map (λ call. call.receipt.number) (filter changes calls) ≡ range_with_len (0 + 1) (change_count calls)
-  pub steps : All (λ call. Stands geo hist (changes call) call) calls
+  pub numbers : map (λ call. call.receipt.number) (filter is_changing calls) ≡ range_with_len (0 + 1) (change_count calls)
+  pub steps : All (λ call. Stands geo hist (is_changing call) call) calls
   pub below : All (λ call. call.receipt.number ≤ now.number) calls
   pub in_order : AllPairs KeepsOrder calls
 
@@ -75,30 +75,30 @@ stands_longer geo hist next false call h =
     let here : state_at (hist ++ next ∷ []) h.0 ≡ state_at hist h.0 = get_or_append_left hist (next ∷ []) one_tier h.0 h.1 in
     (h.0, omega (arith, h.1, length_push hist next), h.2, rw here h.3)
 
-granted_change : (answer : Reply) → is_change answer ≡ true → granted answer ≡ true
-granted_change reply.FullSpent e = cc e
-granted_change reply.New e = refl
-granted_change reply.Replaced e = refl
-granted_change reply.Removed e = refl
-granted_change (reply.Swept key) e = refl
-granted_change (reply.Kept value) e = refl
-granted_change reply.Missing e = refl
-granted_change reply.Differs e = refl
-granted_change (reply.Value value) e = refl
-granted_change reply.FullChain e = refl
-granted_change reply.Worn e = refl
-granted_change (reply.Count n) e = refl
-granted_change (reply.Pairs pairs) e = refl
-granted_change reply.SweptAll e = refl
+grant_of_change : (answer : Reply) → is_change answer ≡ true → grant_of answer ≡ true
+grant_of_change reply.FullSpent e = cc e
+grant_of_change reply.New e = refl
+grant_of_change reply.Replaced e = refl
+grant_of_change reply.Removed e = refl
+grant_of_change (reply.Swept key) e = refl
+grant_of_change (reply.Kept value) e = refl
+grant_of_change reply.Missing e = refl
+grant_of_change reply.Differs e = refl
+grant_of_change (reply.Value value) e = refl
+grant_of_change reply.FullChain e = refl
+grant_of_change reply.Worn e = refl
+grant_of_change (reply.Count n) e = refl
+grant_of_change (reply.Pairs pairs) e = refl
+grant_of_change reply.SweptAll e = refl
 
 -- the calls that change something, with one more
-copied_change : (calls : List Call) (call : Call) → changes call ≡ true → filter changes (calls ++ call ∷ []) ≡ filter changes calls ++ call ∷ []
-copied_change calls call e = filter-append changes calls (call ∷ []) ∙ rw e refl
+copied_change : (calls : List Call) (call : Call) → is_changing call ≡ true → filter is_changing (calls ++ call ∷ []) ≡ filter is_changing calls ++ call ∷ []
+copied_change calls call e = filter-append is_changing calls (call ∷ []) ∙ rw e refl
 
-kept_other : (calls : List Call) (call : Call) → changes call ≡ false → filter changes (calls ++ call ∷ []) ≡ filter changes calls
-kept_other calls call e = filter-append changes calls (call ∷ []) ∙ rw e (append-nil (filter changes calls))
+kept_other : (calls : List Call) (call : Call) → is_changing call ≡ false → filter is_changing (calls ++ call ∷ []) ≡ filter is_changing calls
+kept_other calls call e = filter-append is_changing calls (call ∷ []) ∙ rw e (append-nil (filter is_changing calls))
 
-stands_as : (geo : Geo) (hist : List State) (changed : Bool) (call : Call) → changes call ≡ changed → Stands geo hist changed call → Stands geo hist (changes call) call
+stands_as : (geo : Geo) (hist : List State) (changed : Bool) (call : Call) → is_changing call ≡ changed → Stands geo hist changed call → Stands geo hist (is_changing call) call
 stands_as geo hist changed call e h = subst (λ (b : Bool). Stands geo hist b call) (sym e) h
 
 -- a call is answered with this number, by this reply
@@ -112,17 +112,17 @@ number_of call = call.receipt.number
 
 -- one more call that changes the segment
 pub more_change : (geo : Geo) (calls : List Call) (hist : List State) (old new : Segment) (call : Call) → History geo calls hist old
-    → Answered old new false call.op call.receipt.reply → call.receipt.number ≡ new.number → changes call ≡ true → History geo (calls ++ call ∷ []) (hist ++ new.state ∷ []) new
+    → AnswersOp old new false call.op call.receipt.reply → call.receipt.number ≡ new.number → is_changing call ≡ true → History geo (calls ++ call ∷ []) (hist ++ new.state ∷ []) new
 more_change geo calls hist old new call h answered number_is changed =
     let n = change_count calls in
     let kept = copied_change calls call changed in
-    let counted : change_count (calls ++ call ∷ []) ≡ n + 1 = ap length kept ∙ length_push (filter changes calls) call in
+    let counted : change_count (calls ++ call ∷ []) ≡ n + 1 = ap length kept ∙ length_push (filter is_changing calls) call in
     let raised : new.number ≡ n + 1 = (rw changed at answered.number_is) ∙ ap (λ (k : ℕ). k + 1) h.number_is in
     let at_last : state_at (hist ++ new.state ∷ []) (n + 1) ≡ new.state = get_or_push hist new.state one_tier (n + 1) h.long in
     let at_prior : state_at (hist ++ new.state ∷ []) n ≡ old.state = get_or_append_left hist (new.state ∷ []) one_tier n (omega (arith, h.long)) ∙ h.last in
     let at_first : state_at (hist ++ new.state ∷ []) 0 ≡ one_tier = get_or_append_left hist (new.state ∷ []) one_tier 0 (omega (arith, h.long)) ∙ h.first in
     let step : Step geo 0 old.state n true call.op new.state call.receipt.reply =
-    rw (granted_change call.receipt.reply changed) at (as_granted geo 0 old.state n call.op new.state call.receipt.reply (rw (h.geo_is, h.segment_is, h.number_is) at answered.step)) in
+    rw (grant_of_change call.receipt.reply changed) at (as_granted geo 0 old.state n call.op new.state call.receipt.reply (rw (h.geo_is, h.segment_is, h.number_is) at answered.step)) in
     let stands : Stands geo (hist ++ new.state ∷ []) true call =
     (n, omega (arith, h.long, length_push hist new.state), number_is ∙ raised ∙ zero_front n, rw (at_prior, at_last, zero-add n) step) in
     record {
@@ -132,10 +132,10 @@ more_change geo calls hist old new call h answered number_is changed =
       first = at_first;
       last = rw counted at_last;
       number_is = raised ∙ sym counted;
-      numbers = ap (map number_of) kept ∙ map-append number_of (filter changes calls) (call ∷ []) ∙ ap (λ (xs : List ℕ). xs ++ call.receipt.number ∷ []) h.numbers
+      numbers = ap (map number_of) kept ∙ map-append number_of (filter is_changing calls) (call ∷ []) ∙ ap (λ (xs : List ℕ). xs ++ call.receipt.number ∷ []) h.numbers
           ∙ ap (λ (k : ℕ). range_with_len 1 n ++ k ∷ []) (number_is ∙ raised ∙ one_front n) ∙ sym (range_more 1 n) ∙ ap (range_with_len 1) (sym counted);
-      steps = All-push (λ it. Stands geo (hist ++ new.state ∷ []) (changes it) it) calls call
-          (All-weaker (λ it. Stands geo hist (changes it) it) (λ it. Stands geo (hist ++ new.state ∷ []) (changes it) it) (λ it s. stands_longer geo hist new.state (changes it) it s) calls h.steps)
+      steps = All-push (λ it. Stands geo (hist ++ new.state ∷ []) (is_changing it) it) calls call
+          (All-weaker (λ it. Stands geo hist (is_changing it) it) (λ it. Stands geo (hist ++ new.state ∷ []) (is_changing it) it) (λ it s. stands_longer geo hist new.state (is_changing it) it s) calls h.steps)
           (stands_as geo (hist ++ new.state ∷ []) true call changed stands);
       below = All-push (λ it. it.receipt.number ≤ new.number) calls call (All-weaker (λ it. it.receipt.number ≤ old.number) (λ it. it.receipt.number ≤ new.number) (λ it k. omega (arith, k, raised, h.number_is)) calls h.below) (omega (arith, number_is));
       in_order = all_pairs_push KeepsOrder calls call h.in_order (λ k d inside same. (omega (arith, h.below k d inside, number_is, raised, h.number_is), λ e. omega (arith, h.below k d inside, number_is, raised, h.number_is)));
@@ -149,7 +149,7 @@ more_change geo calls hist old new call h answered number_is changed =
 
 -- one more call that changes nothing
 pub more_other : (geo : Geo) (calls : List Call) (hist : List State) (old new : Segment) (call : Call) → History geo calls hist old
-    → Answered old new false call.op call.receipt.reply → call.receipt.number ≡ new.number → changes call ≡ false → History geo (calls ++ call ∷ []) hist new
+    → AnswersOp old new false call.op call.receipt.reply → call.receipt.number ≡ new.number → is_changing call ≡ false → History geo (calls ++ call ∷ []) hist new
 more_other geo calls hist old new call h answered number_is still =
     let n = change_count calls in
     let kept = kept_other calls call still in
@@ -157,7 +157,7 @@ more_other geo calls hist old new call h answered number_is still =
     let same : new.number ≡ n = (rw still at answered.number_is) ∙ h.number_is in
     let state_same : new.state ≡ old.state = unchanged_state old.geo old.segment old.state old.number false call.op new.state call.receipt.reply still answered.step in
     let at_last : state_at hist n ≡ old.state = h.last in
-    let step : Step geo 0 old.state n (granted call.receipt.reply) call.op old.state call.receipt.reply =
+    let step : Step geo 0 old.state n (grant_of call.receipt.reply) call.op old.state call.receipt.reply =
     as_granted geo 0 old.state n call.op old.state call.receipt.reply (rw (h.geo_is, h.segment_is, h.number_is, state_same) at answered.step) in
     let stands : Stands geo hist false call = (n, omega (arith, h.long), number_is ∙ same ∙ sym (zero-add n), rw (at_last, zero-add n) step) in
     record {
@@ -168,7 +168,7 @@ more_other geo calls hist old new call h answered number_is still =
       last = rw counted (at_last ∙ sym state_same);
       number_is = same ∙ sym counted;
       numbers = rw kept h.numbers;
-      steps = All-push (λ it. Stands geo hist (changes it) it) calls call h.steps (stands_as geo hist false call still stands);
+      steps = All-push (λ it. Stands geo hist (is_changing it) it) calls call h.steps (stands_as geo hist false call still stands);
       below = All-push (λ it. it.receipt.number ≤ new.number) calls call (All-weaker (λ it. it.receipt.number ≤ old.number) (λ it. it.receipt.number ≤ new.number) (λ it k. omega (arith, k, same, h.number_is)) calls h.below) (omega (arith, number_is));
       in_order = all_pairs_push KeepsOrder calls call h.in_order (λ k d inside same'. (omega (arith, h.below k d inside, number_is, same, h.number_is), λ e. absurd (let f : true ≡ false = sym e ∙ still in cc f)));
     }
@@ -179,13 +179,13 @@ pub record More (geo : Geo) (calls : List Call) (now : Segment) : Type 0 where
   pub history : History geo calls hist now
 
 pub more : (geo : Geo) (calls : List Call) (old new : Segment) (call : Call) → More geo calls old
-    → Answered old new false call.op call.receipt.reply → call.receipt.number ≡ new.number → More geo (calls ++ call ∷ []) new
-more geo calls old new call m answered number_is = elim (cases_Bool (changes call)) [
+    → AnswersOp old new false call.op call.receipt.reply → call.receipt.number ≡ new.number → More geo (calls ++ call ∷ []) new
+more geo calls old new call m answered number_is = elim (cases_Bool (is_changing call)) [
   | inl changed ↦ record { hist = m.hist ++ new.state ∷ []; history = more_change geo calls m.hist old new call m.history answered number_is changed }
   | inr still ↦ record { hist = m.hist; history = more_other geo calls m.hist old new call m.history answered number_is still }
 ]
 
-is_in : (geo : Geo) (hist : List State) (most : ℕ) (changed : Bool) (call : Call) → length hist ≡ most + 1 → Stands geo hist changed call → IsIn geo 0 0 (state_at hist) most changed call
+is_in : (geo : Geo) (hist : List State) (most : ℕ) (changed : Bool) (call : Call) → length hist ≡ most + 1 → Stands geo hist changed call → IsInHistory geo 0 0 (state_at hist) most changed call
 is_in geo hist most true call long h = (h.0, h.2, h.3)
 is_in geo hist most false call long h = (h.0, omega (arith, h.1), h.2, h.3)
 
@@ -194,6 +194,6 @@ pub is_legal : (geo : Geo) (calls : List Call) (hist : List State) (now : Segmen
 is_legal geo calls hist now h = record {
   numbers = subst (λ (ns : List ℕ). IsPermutation (range_with_len (0 + 1) (change_count calls)) ns) (sym h.numbers) (IsPermutation-refl (range_with_len (0 + 1) (change_count calls)));
   begins = h.first;
-  steps = All-weaker (λ it. Stands geo hist (changes it) it) (λ it. IsIn geo 0 0 (state_at hist) (change_count calls) (changes it) it) (λ it s. is_in geo hist (change_count calls) (changes it) it h.long s) calls h.steps;
+  steps = All-weaker (λ it. Stands geo hist (is_changing it) it) (λ it. IsInHistory geo 0 0 (state_at hist) (change_count calls) (is_changing it) it) (λ it s. is_in geo hist (change_count calls) (is_changing it) it h.long s) calls h.steps;
   in_order = h.in_order;
 }

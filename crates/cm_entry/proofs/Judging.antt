@@ -26,14 +26,14 @@ use Rattle.cm_entry.proofs.SpanWords.{stretch_len}
 
 -- what is known of lengths that fit
 pub record AreFit (geo : Geo) (chunk key value : ℕ) : Type 0 where
-  pub key_some : 1 ≤ key
+  pub key_nonempty : 1 ≤ key
   pub key_short : key ≤ 256
   pub value_short : value ≤ 4096
   pub inside : chunk + need geo key value ≤ geo.chunks
 
 pub are_fit : (geo : Geo) (chunk head : ℕ) → lengths_fit geo chunk head ≡ true → AreFit geo chunk (key_len head) (value_len head)
 are_fit geo chunk head fit = record {
-  key_some = grind (arith, common_steps, nat_tests);
+  key_nonempty = grind (arith, common_steps, nat_tests);
   key_short = grind (arith, common_steps, nat_tests);
   value_short = grind (arith, common_steps, nat_tests);
   inside = grind (arith, common_steps, nat_tests);

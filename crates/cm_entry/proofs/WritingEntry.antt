@@ -58,7 +58,7 @@ same_eqb n = grind (arith, nat_tests)
 
 -- the lengths of an entry that has room
 lengths_are : (geo : Geo) (chunk k v : ℕ) → Fits geo k v → chunk + need geo k v ≤ geo.chunks → (head : ℕ) → key_len head ≡ k → value_len head ≡ v → lengths_fit geo chunk head ≡ true
-lengths_are geo chunk k v fits run head e e' = rw (e, e') (by_tests k v (need geo k v) chunk geo.chunks fits.key_some fits.key_short fits.value_short fits.few_chunks run)
+lengths_are geo chunk k v fits run head e e' = rw (e, e') (by_tests k v (need geo k v) chunk geo.chunks fits.key_nonempty fits.key_short fits.value_short fits.run_short run)
   where
     by_tests : (k v n chunk chunks : ℕ) → 1 ≤ k → k ≤ 256 → v ≤ 4096 → n ≤ 64 → chunk + n ≤ chunks → (nat_le 1 k && (nat_le k 256 && (nat_le v 4096 && (nat_le n 64 && nat_le (chunk + n) chunks)))) ≡ true
     by_tests k v n chunk chunks a b c d e = grind (arith, nat_tests, common_steps)
@@ -198,8 +198,8 @@ stood geo words place chunk key value length_is low has =
     let value_room : pv ≤ length (drop (at + 2 + pk) words) = value_by at pk pv (words_in_segment geo) (length words) (length (drop (at + 2 + pk) words)) length_is (length-drop (at + 2 + pk) words) room in
     let key_size : length key_is ≡ 8 * pk = bytes_len (take pk (drop (at + 2 + 0) words)) ∙ ap (λ (n : ℕ). 8 * n) (length-take-le pk (drop (at + 2 + 0) words) key_room) in
     let value_size : length value_is ≡ 8 * pv = bytes_len (take pv (drop (at + 2 + pk) words)) ∙ ap (λ (n : ℕ). 8 * n) (length-take-le pv (drop (at + 2 + pk) words) value_room) in
-    let key_full : key_is ≡ padded key = padded_is (key_len head) key_is key_size read.key_filled ∙ ap padded (sym read.key_is) in
-    let value_full : value_is ≡ padded value = padded_is (value_len head) value_is value_size read.value_filled ∙ ap padded (sym read.value_is) in
+    let key_full : key_is ≡ padded key = padded_is (key_len head) key_is key_size read.key_padded ∙ ap padded (sym read.key_is) in
+    let value_full : value_is ≡ padded value = padded_is (value_len head) value_is value_size read.value_padded ∙ ap padded (sym read.value_is) in
     let key_length : length key ≡ key_len head = ap (λ (l : List ℕ). length l) read.key_is ∙ length-take-le (key_len head) key_is (whole_words (key_len head) (length key_is) key_size) in
     let value_length : length value ≡ value_len head = ap (λ (l : List ℕ). length l) read.value_is ∙ length-take-le (value_len head) value_is (whole_words (value_len head) (length value_is) value_size) in
     let head_is : head ≡ head_of key value = halves head (length key) (length value) key_length value_length in

@@ -13,7 +13,7 @@ need geo key_len value_len = parts_for geo.chunk_words (2 + parts_for 8 key_len 
 
 -- a key and a value of these lengths may be stored
 pub record Fits (geo : Geo) (key_len value_len : ℕ) : Type 0 where
-  pub key_some : 1 ≤ key_len
+  pub key_nonempty : 1 ≤ key_len
   pub key_short : key_len ≤ MAX_KEY_BYTES
   pub value_short : value_len ≤ MAX_VALUE_BYTES
-  pub few_chunks : need geo key_len value_len ≤ MAX_RUN_CHUNKS
+  pub run_short : need geo key_len value_len ≤ MAX_RUN_CHUNKS

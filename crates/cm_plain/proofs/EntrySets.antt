@@ -13,7 +13,7 @@ use Rattle.cm_plain.proofs.Apart.{begins_before, begins_behind}
 use Rattle.cm_plain.proofs.Each.{Pairs, found_has, found_passes}
 use Rattle.cm_plain.proofs.Keys.{key_tells}
 use Rattle.cm_plain.proofs.ListElements.{In, all_in, in_either, in_from, in_has, in_kept_from, in_kept_to, in_left, in_right}
-use Rattle.cm_plain.proofs.Placing.{keys_differ}
+use Rattle.cm_plain.proofs.Placements.{keys_differ}
 use Rattle.cm_plain.proofs.States.{Differs, each_differs}
 
 -- the entry of a key is the one that is found

@@ -96,12 +96,12 @@ has_words geo words place chunk key value length_is low stands =
     let fit = lengths_are (key_len head) (value_len head) (need geo (key_len head) (value_len head)) chunk geo.chunks read.fit in
     let key_long = key_size geo words place chunk head length_is low fit.4 in
     let value_long = value_size geo words place chunk head length_is low fit.4 in
-    let key_words : key_read ≡ padded key = padded_is (key_len head) key_read key_long read.key_filled ∙ ap padded (sym read.key_is) in
-    let value_words : value_read ≡ padded value = padded_is (value_len head) value_read value_long read.value_filled ∙ ap padded (sym read.value_is) in
+    let key_words : key_read ≡ padded key = padded_is (key_len head) key_read key_long read.key_padded ∙ ap padded (sym read.key_is) in
+    let value_words : value_read ≡ padded value = padded_is (value_len head) value_read value_long read.value_padded ∙ ap padded (sym read.value_is) in
     let key_length : length key ≡ key_len head = ap (λ (l : List ℕ). length l) read.key_is ∙ length-take-le (key_len head) key_read (whole_words (key_len head) (length key_read) key_long) in
     let value_length : length value ≡ value_len head = ap (λ (l : List ℕ). length l) read.value_is ∙ length-take-le (value_len head) value_read (whole_words (value_len head) (length value_read) value_long) in
     let head_is : head ≡ head_of key value = halves head (length key) (length value) key_length value_length in
-    let fits : Fits geo (key_len head) (value_len head) = record { key_some = fit.0; key_short = fit.1; value_short = fit.2; few_chunks = fit.3 } in
+    let fits : Fits geo (key_len head) (value_len head) = record { key_nonempty = fit.0; key_short = fit.1; value_short = fit.2; run_short = fit.3 } in
     record {
       fits = rw (key_length, value_length) fits;
       inside = rw (key_length, value_length) fit.4;

@@ -65,8 +65,8 @@ tier_of geo segment words state place tells chained =
     All-contains (TierRepresents geo words state) state.chain place tells.tiers (subst (λ (c : List ℕ). Contains c place) tells.chain chained)
 
 -- an entry that words tell is told of every state that they tell
-told_too : (geo : Geo) (segment : ℕ) (words : List ℕ) (one other : State) → Represents geo segment words one → Represents geo segment words other → (placed : Placed) → Contains one.entries placed → Contains other.entries placed
-told_too geo segment words one other tells tells' placed there =
+represented_too : (geo : Geo) (segment : ℕ) (words : List ℕ) (one other : State) → Represents geo segment words one → Represents geo segment words other → (placed : Placed) → Contains one.entries placed → Contains other.entries placed
+represented_too geo segment words one other tells tells' placed there =
     let point = tells.pointed placed there in
     let tier = tier_of geo segment words other placed.place tells' (in_chain geo segment words one placed tells there) in
     let of = tier.slots point.0 (slot_for geo placed.key placed.chunk) point.1.inside point.1.slot_is in
@@ -95,6 +95,6 @@ resting_once geo segment words one other rests rests' =
     let chain : one.chain ≡ other.chain = sym tells.chain ∙ tells'.chain in
     let entries : one.entries ≡ other.entries = same_entries geo one.entries other.entries
     (each_rising tells.is_state) (each_rising tells'.is_state)
-    (λ z i. in_from other.entries z (told_too geo segment words one other tells tells' z (in_to one.entries z i)))
-    (λ z i. in_from one.entries z (told_too geo segment words other one tells' tells z (in_to other.entries z i))) in
+    (λ z i. in_from other.entries z (represented_too geo segment words one other tells tells' z (in_to one.entries z i)))
+    (λ z i. in_from one.entries z (represented_too geo segment words other one tells' tells z (in_to other.entries z i))) in
     same_state one other chain entries

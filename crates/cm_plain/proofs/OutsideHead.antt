@@ -98,7 +98,7 @@ resting_same geo segment words at word state within_limit r = let low : at < 4 =
   length_is = length-set words at word ∙ r.length_is;
   fourth = behind words at word 3 (omega arith) ∙ r.fourth;
   heads = All-weaker (EndsHead geo words) (EndsHead geo (slice_set words at word)) (λ place h. head_same geo words at word place low h) state.chain r.heads;
-  tells = represents_same geo segment words at word state within_limit r.tells;
+  represents = represents_same geo segment words at word state within_limit r.represents;
 }
 
 -- words that rest for a state are as many as a segment has
@@ -109,7 +109,7 @@ resting_many geo segment words state r = r.length_is
 -- words that rest for a state tell it
 pub resting_represents : (geo : Geo) (segment : ℕ) (words : List ℕ) (state : State) → Resting geo segment words state → Represents geo segment words state
 unfolding Resting
-resting_represents geo segment words state r = r.tells
+resting_represents geo segment words state r = r.represents
 
 pointed_back : (geo : Geo) (words : List ℕ) (at word place : ℕ) (key : List ℕ) (chunk : ℕ) → at < 4 → IsPointed geo (slice_set words at word) place key chunk → IsPointed geo words place key chunk
 pointed_back geo words at word place key chunk low p = (p.0, points_back geo words at word place key chunk p.0 low p.1)
@@ -144,8 +144,8 @@ torn_same geo words at word state change low t = record {
   others_stand = λ placed is. reading_same geo words at word placed.place placed.chunk low ∙ t.others_stand placed is;
   others_pointed = λ placed is. pointed_same geo words at word placed.place placed.key placed.chunk low (t.others_pointed placed is);
   slots = λ place number slot chained inside e. t.slots place number slot (rw (linked_same geo words at word low) at chained) inside (sym (slot_same geo words at word place number low) ∙ e);
-  old_whole = λ placed is kind points. reading_same geo words at word placed.place placed.chunk low ∙ t.old_whole placed is kind (in_chain_back geo words at word placed low points);
-  new_whole = λ placed is apart points. reading_same geo words at word placed.place placed.chunk low ∙ t.new_whole placed is apart (in_chain_back geo words at word placed low points);
+  old_stands = λ placed is kind points. reading_same geo words at word placed.place placed.chunk low ∙ t.old_stands placed is kind (in_chain_back geo words at word placed low points);
+  new_stands = λ placed is apart points. reading_same geo words at word placed.place placed.chunk low ∙ t.new_stands placed is apart (in_chain_back geo words at word placed low points);
   pointed = λ old new is_old is_new. elim (t.pointed old new is_old is_new) [
     | inl points ↦ inl (in_chain_same geo words at word old low points)
     | inr points ↦ inr (in_chain_same geo words at word new low points)

@@ -53,8 +53,8 @@ one_entry p q e = cc e
 pub record IsRead (geo : Geo) (chunk head stored_checksum : ℕ) (key value : List ℕ) (pair : Pair) : Type 0 where
   pub fit : lengths_fit geo chunk head ≡ true
   pub sum_is : checksum head key value ≡ stored_checksum
-  pub key_filled : is_padded (key_len head) key ≡ true
-  pub value_filled : is_padded (value_len head) value ≡ true
+  pub key_padded : is_padded (key_len head) key ≡ true
+  pub value_padded : is_padded (value_len head) value ≡ true
   pub key_is : pair.key ≡ take (key_len head) key
   pub value_is : pair.value ≡ take (value_len head) value
 
@@ -64,10 +64,10 @@ is_read geo chunk head stored_checksum key value pair e = elim (cases_Bool (leng
   | inl fit ↦ by_sum fit (rw fit at e)
 ]
   where
-    by_filling : lengths_fit geo chunk head ≡ true → checksum head key value ≡ stored_checksum
+    by_padding : lengths_fit geo chunk head ≡ true → checksum head key value ≡ stored_checksum
         → (if not (is_padded (key_len head) key && is_padded (value_len head) value) then wrong_padding else entry (record { key = take (key_len head) key; value = take (value_len head) value })) ≡ entry pair
         → IsRead geo chunk head stored_checksum key value pair
-    by_filling fit sum_is e = elim (cases_Bool (is_padded (key_len head) key)) [
+    by_padding fit sum_is e = elim (cases_Bool (is_padded (key_len head) key)) [
       | inr fails ↦ (let clash : wrong_padding ≡ entry pair = rw fails at e in cc clash)
       | inl key_yes ↦ elim (cases_Bool (is_padded (value_len head) value)) [
         | inr fails ↦ (let clash : wrong_padding ≡ entry pair = rw (key_yes, fails) at e in cc clash)
@@ -76,8 +76,8 @@ is_read geo chunk head stored_checksum key value pair e = elim (cases_Bool (leng
             record {
               fit = fit;
               sum_is = sum_is;
-              key_filled = key_yes;
-              value_filled = value_yes;
+              key_padded = key_yes;
+              value_padded = value_yes;
               key_is = ap (λ (p : Pair). p.key) (sym (one_entry (record { key = take (key_len head) key; value = take (value_len head) value }) pair pair_is));
               value_is = ap (λ (p : Pair). p.value) (sym (one_entry (record { key = take (key_len head) key; value = take (value_len head) value }) pair pair_is));
             })
@@ -90,5 +90,5 @@ is_read geo chunk head stored_checksum key value pair e = elim (cases_Bool (leng
         → IsRead geo chunk head stored_checksum key value pair
     by_sum fit e = elim (eqb_tells (checksum head key value) stored_checksum) [
       | inr fails ↦ (let clash : wrong_checksum ≡ entry pair = rw fails.0 at e in cc clash)
-      | inl yes' ↦ by_filling fit yes'.1 (rw yes'.0 at e)
+      | inl yes' ↦ by_padding fit yes'.1 (rw yes'.0 at e)
     ]

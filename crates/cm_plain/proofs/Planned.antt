@@ -28,7 +28,7 @@ use Rattle.cm_plain.proofs.Chains.{each_other, lowest_outside}
 use Rattle.cm_plain.proofs.Each.{each_weaker}
 use Rattle.cm_plain.proofs.EntrySets.{found_is, found_there, in_with, is_put, no_other}
 use Rattle.cm_plain.proofs.ListElements.{In, in_from, in_has, in_kept_to, in_to}
-use Rattle.cm_plain.proofs.Placing.{fit_is, goes_in}
+use Rattle.cm_plain.proofs.Placements.{fit_is, may_stand_in}
 use Rattle.cm_plain.proofs.StatePairs.{placed_in, same_in}
 use Rattle.cm_plain.proofs.States.{each_differs, each_placed, each_run}
 
@@ -118,7 +118,7 @@ new_apart geo segment state op change placed other is plans i key_is j ne =
     let new = in_room geo segment state op change placed plans (in_to (after geo change state).entries placed i) key_is in
     let run = (placed_in geo segment (after geo change state) placed plans.leads i).run in
     let fits : Fits geo (length change.key) (length new.value) = subst (λ (p : Placed). Fits geo (length p.key) (length p.value)) new.placed_is run.fits in
-    let to = goes_in geo segment state change.key new.value new.spot is fits (room_for geo state change.key (need geo (length change.key) (length new.value))) refl new.spot_is in
+    let to = may_stand_in geo segment state change.key new.value new.spot is fits (room_for geo state change.key (need geo (length change.key) (length new.value))) refl new.spot_is in
     let entry : Placed = entry_at change.key new.value new.spot.place new.spot.chunk in
     let apart : IsApart geo other entry = in_has (λ other. IsApart geo other entry) (without change.key state.entries) other to.apart
     (in_kept_to (λ it. not (bytes_eq it.key change.key)) state.entries other j (not_same other.key change.key ne)) in
@@ -174,7 +174,7 @@ room_is_apart geo segment state key value old spot is fits None e at = elim (cas
       let here : Spot = record { place = place; chunk = 0 } in
       let at' : Some here ≡ Some spot = rw short at at in
       let shorter : length state.chain < geo.tiers = grind (arith, nat_tests) in
-      let inside : 0 + need geo (length key) (length value) ≤ geo.chunks = omega (arith, fits.few_chunks, chunks_range geo) in
+      let inside : 0 + need geo (length key) (length value) ≤ geo.chunks = omega (arith, fits.run_short, chunks_range geo) in
       let others = each_other state.chain place (lowest_outside geo state.chain shorter).unlinked in
       subst (λ (s : Spot). AllByRecursion (λ other. IsApart geo other (entry_at key value s.place s.chunk)) state.entries) (same_Some here spot at')
       (each_weaker (IsPlaced geo segment state.chain) (λ other. IsApart geo other (entry_at key value place 0))

@@ -24,7 +24,7 @@ use Rattle.cm_plain.proofs.Keys.{key_tells}
 use Rattle.cm_plain.proofs.ListElements.{In, in_from, in_kept_to, in_to}
 use Rattle.cm_plain.proofs.OneState.{in_chain, tier_of}
 use Rattle.cm_plain.proofs.OutsideHead.{resting_many, resting_represents}
-use Rattle.cm_plain.proofs.Placing.{starts_apart}
+use Rattle.cm_plain.proofs.Placements.{starts_apart}
 use Rattle.cm_plain.proofs.Planned.{begins_old, in_room}
 use Rattle.cm_plain.proofs.States.{is_placed, place_low}
 
@@ -83,8 +83,8 @@ resting_torn geo segment words state op change rests plans =
       others_stand = λ placed is. tells.stand placed is.there;
       others_pointed = λ placed is. (let once = tells.pointed placed is.there in (once.0, once.1));
       slots = slots_are geo segment words state op change tells plans;
-      old_whole = λ placed is other points. tells.stand placed is.there;
-      new_whole = λ placed is apart points. absurd (never_new geo segment words state op change placed tells plans is apart points);
+      old_stands = λ placed is other points. tells.stand placed is.there;
+      new_stands = λ placed is apart points. absurd (never_new geo segment words state op change placed tells plans is apart points);
       pointed = λ old new is_old is_new. inl (record { chained = in_chain geo segment words state old tells is_old.there; pointed = (let once = tells.pointed old is_old.there in (once.0, once.1)) });
       whole = tells.whole;
       chain = inl tells.chain;

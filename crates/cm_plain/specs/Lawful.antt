@@ -92,7 +92,7 @@ pub record LawfulApart (geo : Geo) (segment : ℕ) (words : List ℕ) (state : S
   pub length_is : length words ≡ words_in_segment geo
   pub fourth : word_at words 3 ≡ 0
   pub heads : All (EndsHead geo words) state.chain
-  pub tells : Represents geo segment words state
+  pub represents : Represents geo segment words state
 
 -- the words of a quiet segment after so many changes stand for a state
 pub record Lawful (geo : Geo) (segment : ℕ) (words : List ℕ) (number : ℕ) (state : State) : Type 0 where

@@ -8,7 +8,7 @@ pub mod Replies
 pub mod Steps
 pub mod History
 pub mod Segments
-pub mod Placings
+pub mod Placements
 pub mod Slots
 pub mod Readings
 pub mod FoundChains

@@ -28,37 +28,37 @@ pub record IsSegment (seen : Segment) : Type 0 where
   pub counted : seen.number ≤ last_number
 
 -- an operation was answered by one step of the bounded map; a change takes the next number
-pub record Answered (old new : Segment) (grant : Bool) (op : Op) (answer : Reply) : Type 0 where
+pub record AnswersOp (old new : Segment) (grant : Bool) (op : Op) (answer : Reply) : Type 0 where
   pub geo_same : new.geo ≡ old.geo
   pub segment_same : new.segment ≡ old.segment
   pub step : Step old.geo old.segment old.state old.number grant op new.state answer
   pub number_is : new.number ≡ (if is_change answer then old.number + 1 else old.number)
 
 -- an operation places this value for this key
-pub record PlacesFor (seen : Segment) (key value : List ℕ) (op : Op) : Type 0 where
+pub record IsPlacingOp (seen : Segment) (key value : List ℕ) (op : Op) : Type 0 where
   pub met : would_change op seen.state ≡ true
   pub placed : placed_value op ≡ Some value
   pub keyed : ChangesKey op seen.state key
   pub wanted : room_wanted seen.geo seen.state op ≡ room_for seen.geo seen.state key (need seen.geo (length key) (length value))
 
 -- each operation that places this value for this key was answered
-pub record Places (old new : Segment) (grant : Bool) (key value : List ℕ) (answer : Reply) : Type 0 where
-  pub answers : (op : Op) → PlacesFor old key value op → Answered old new grant op answer
+pub record PlacesValue (old new : Segment) (grant : Bool) (key value : List ℕ) (answer : Reply) : Type 0 where
+  pub answers : (op : Op) → IsPlacingOp old key value op → AnswersOp old new grant op answer
 
 -- an operation takes this key's entry away
-pub record TakesFor (seen : Segment) (key : List ℕ) (op : Op) : Type 0 where
+pub record IsRemovingOp (seen : Segment) (key : List ℕ) (op : Op) : Type 0 where
   pub met : would_change op seen.state ≡ true
   pub taken : placed_value op ≡ None
   pub keyed : ChangesKey op seen.state key
 
 -- the reply to an operation that takes a key's entry away, or whose change can't be counted any more
-abbrev pub reply_to_taking : Bool → Op → List ℕ → Reply
-reply_to_taking true op key = reply_of kind.Remove op key
-reply_to_taking false op key = reply.Worn
+abbrev pub removal_reply : Bool → Op → List ℕ → Reply
+removal_reply true op key = reply_of kind.Remove op key
+removal_reply false op key = reply.Worn
 
 -- each operation that takes this key's entry away was answered; none of them needs a grant
-pub record Takes (old new : Segment) (key : List ℕ) (taken : Bool) : Type 0 where
-  pub answers : (op : Op) (grant : Bool) → TakesFor old key op → Answered old new grant op (reply_to_taking taken op key)
+pub record RemovesKey (old new : Segment) (key : List ℕ) (taken : Bool) : Type 0 where
+  pub answers : (op : Op) (grant : Bool) → IsRemovingOp old key op → AnswersOp old new grant op (removal_reply taken op key)
 
 -- no key with the prefix is below this one in byte order
 abbrev pub IsLeast : List ℕ → List Placed → List ℕ → Type 0
@@ -76,6 +76,6 @@ SweepsLeast state (Sweep segment prefix) (reply.Swept key) = IsLeast prefix stat
 SweepsLeast state op answer = Unit {0}
 
 -- a sweep was answered, whatever segment it names; it needs no grant
-pub record Sweeps (old new : Segment) (prefix : List ℕ) (answer : Reply) : Type 0 where
-  pub answers : (segment : ℕ) (grant : Bool) → Answered old new grant (Sweep segment prefix) answer
+pub record AnswersSweeps (old new : Segment) (prefix : List ℕ) (answer : Reply) : Type 0 where
+  pub answers : (segment : ℕ) (grant : Bool) → AnswersOp old new grant (Sweep segment prefix) answer
   pub least : (segment : ℕ) → SweepsLeast old.state (Sweep segment prefix) answer

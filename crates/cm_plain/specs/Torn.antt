@@ -13,7 +13,7 @@ use Rattle.cm_plain.specs.Readings.{HasKeyWords, Stands, entry_checksum, head_of
 use Rattle.cm_plain.specs.FoundChains.{IsZero, chain_of}
 
 -- an entry of another key than the change's
-pub record IsOther (state : State) (change : Change) (placed : Placed) : Type 0 where
+pub record IsOtherEntry (state : State) (change : Change) (placed : Placed) : Type 0 where
   pub there : Contains state.entries placed
   pub other : placed.key ≢ change.key
 
@@ -30,7 +30,7 @@ BeginsAt (Some run) place chunk = (run.place ≡ place) × (run.chunk ≡ chunk)
 -- a slot at this place is that of an entry of another key
 pub record IsOtherSlot (geo : Geo) (state : State) (change : Change) (place : ℕ) (slot : Slot) : Type 0 where
   pub placed : Placed
-  pub is_other : IsOther state change placed
+  pub is_other : IsOtherEntry state change placed
   pub place_is : placed.place ≡ place
   pub slot_is : slot ≡ slot_for geo placed.key placed.chunk
 
@@ -54,14 +54,14 @@ pub record IsBetween (geo : Geo) (words : List ℕ) (old new : Placed) : Type 0 
 -- the words lie between the state and the one that the change leads to
 pub record Torn (geo : Geo) (words : List ℕ) (state : State) (change : Change) : Type 0 where
   -- the other entries stand where they stood, and a slot points to each
-  pub others_stand : (placed : Placed) → IsOther state change placed → Stands geo words placed
-  pub others_pointed : (placed : Placed) → IsOther state change placed → IsPointed geo words placed.place placed.key placed.chunk
+  pub others_stand : (placed : Placed) → IsOtherEntry state change placed → Stands geo words placed
+  pub others_pointed : (placed : Placed) → IsOtherEntry state change placed → IsPointed geo words placed.place placed.key placed.chunk
   -- each slot of a chained tier that isn't empty is another entry's or the change's
   pub slots : (place number : ℕ) (slot : Slot) → Contains (chain_of geo words).places place → number < 2 * geo.chunks → slot_in geo words place number ≡ Some slot
       → IsOtherSlot geo state change place slot ⊎ IsChangeSlot geo change place slot
   -- what a slot points to is whole: the old entry, unless its value is replaced in place, and a new one apart from it
-  pub old_whole : (placed : Placed) → IsChangeEntry state change placed → (change.kind ≢ kind.InPlace) → IsPointedInChain geo words placed → Stands geo words placed
-  pub new_whole : (placed : Placed) → IsChangeEntry (after geo change state) change placed
+  pub old_stands : (placed : Placed) → IsChangeEntry state change placed → (change.kind ≢ kind.InPlace) → IsPointedInChain geo words placed → Stands geo words placed
+  pub new_stands : (placed : Placed) → IsChangeEntry (after geo change state) change placed
       → (BeginsAt change.old_run placed.place placed.chunk → ⊥) → IsPointedInChain geo words placed → Stands geo words placed
   -- where the key was there and stays, a slot points to its old or its new entry
   pub pointed : (old new : Placed) → IsChangeEntry state change old → IsChangeEntry (after geo change state) change new

@@ -53,18 +53,18 @@ pub fn put_entry(
     geo: &Geo,
     chain: &mut Vec<u32>,
     entries: &mut Vec<Placed>,
-    links: bool,
+    link: bool,
     entry: Placed,
 ) -> Result<(), NoMemory>
     requires rising { AllPairs (λ other later. end_of geo.now other ≤ start_of geo.now later) (without entry.key entries.old.items) }
     requires apart { All (λ other. start_of geo.now other ≢ start_of geo.now entry) (without entry.key entries.old.items) }
     ensures entries { OnOk result (entries.new.items ≡ with_entry geo.now entry (without entry.key entries.old.items)) }
-    ensures chain { OnOk result (chain.new.items ≡ (if links then chain.old.items ++ entry.place ∷ [] else chain.old.items)) }
+    ensures chain { OnOk result (chain.new.items ≡ (if link then chain.old.items ++ entry.place ∷ [] else chain.old.items)) }
     ensures err_entries { OnErr result (entries.new.items ≡ entries.old.items) }
     ensures err_chain { OnErr result (chain.new.items ≡ chain.old.items) }
 {
     entries.reserve(1)?;
-    if links {
+    if link {
         chain.push(entry.place)?;
     }
     remove_key(entries, entry.key.as_slice());

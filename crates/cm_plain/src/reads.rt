@@ -3,7 +3,7 @@
 ghost use Rattle.std.specs.Prelude.{◌≡◌, ◌<◌, ◌^◌, IfOk, length, map, MatchOption, All, false, Some, None, if◌then◌else◌, is_some};
 ghost use Rattle.std.specs.Option.{option_map};
 ghost use Rattle.cm_plain.specs.States.{ListsEntries, entry_among, pair_of, value_in};
-ghost use Rattle.cm_plain.specs.Steps.{value_reply as got_of, has_prefix, is_value as is_value_in, unmet_reply as unmet_of};
+ghost use Rattle.cm_plain.specs.Steps.{value_reply as value_reply_of, has_prefix, is_value as is_value_in, unmet_reply as unmet_reply_of};
 ghost use Rattle.cm_plain.specs.Segments.{IsLeastKey};
 
 use crate::bytes::Bytes;
@@ -14,8 +14,8 @@ use crate::stop::NoMemory;
 use std::alloc::Global;
 
 /// The value of a key, or that it isn't there. Takes memory.
-pub fn got(alloc: Global, entries: &[Placed], key: &[u8]) -> Result<Reply, NoMemory>
-    ensures { IfOk result (λ reply. reply ≡ got_of (value_in (entry_among key.now entries.now))) }
+pub fn value_reply(alloc: Global, entries: &[Placed], key: &[u8]) -> Result<Reply, NoMemory>
+    ensures { IfOk result (λ reply. reply ≡ value_reply_of (value_in (entry_among key.now entries.now))) }
 {
     match find_entry(entries, key) {
         Some(entry) => Ok(Reply::Value(Bytes::of(alloc, entry.value.as_slice())?)),
@@ -24,7 +24,7 @@ pub fn got(alloc: Global, entries: &[Placed], key: &[u8]) -> Result<Reply, NoMem
 }
 
 /// What keeps a key's value from being put in first: the value that is there. Takes memory.
-pub fn kept(alloc: Global, entries: &[Placed], key: &[u8]) -> Result<Option<Reply>, NoMemory>
+pub fn kept_reply(alloc: Global, entries: &[Placed], key: &[u8]) -> Result<Option<Reply>, NoMemory>
     ensures { IfOk result (λ answer. answer ≡ option_map (λ value. Reply.Kept value) (value_in (entry_among key.now entries.now))) }
 {
     match find_entry(entries, key) {
@@ -34,7 +34,7 @@ pub fn kept(alloc: Global, entries: &[Placed], key: &[u8]) -> Result<Option<Repl
 }
 
 /// What keeps a key's value from being changed: that the key isn't there.
-pub fn missing(entries: &[Placed], key: &[u8]) -> Option<Reply>
+pub fn missing_reply(entries: &[Placed], key: &[u8]) -> Option<Reply>
     ensures { result ≡ (if is_some (value_in (entry_among key.now entries.now)) then None else Some Reply.Missing) }
 {
     match find_entry(entries, key) {
@@ -44,8 +44,8 @@ pub fn missing(entries: &[Placed], key: &[u8]) -> Option<Reply>
 }
 
 /// What keeps a key's value from being changed where another one is expected.
-pub fn unmet(entries: &[Placed], key: &[u8], expected: &[u8]) -> Option<Reply>
-    ensures { let value = value_in (entry_among key.now entries.now) in result ≡ (if is_value_in value expected.now then None else Some (unmet_of value)) }
+pub fn unmet_reply(entries: &[Placed], key: &[u8], expected: &[u8]) -> Option<Reply>
+    ensures { let value = value_in (entry_among key.now entries.now) in result ≡ (if is_value_in value expected.now then None else Some (unmet_reply_of value)) }
 {
     match find_entry(entries, key) {
         Some(entry) if entry.value.as_slice() == expected => None,
@@ -80,7 +80,7 @@ fn pairs_of(alloc: Global, entries: &[Placed]) -> Result<Vec<Pair>, NoMemory>
 }
 
 /// All pairs, in byte order of the keys. Takes memory.
-pub fn listed(alloc: Global, entries: &[Placed]) -> Result<PairList, NoMemory>
+pub fn sorted_pairs(alloc: Global, entries: &[Placed]) -> Result<PairList, NoMemory>
     requires { length entries.now < 2 ^ 32 }
     ensures { IfOk result (ListsEntries entries.now) }
 {

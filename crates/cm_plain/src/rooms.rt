@@ -4,7 +4,7 @@ ghost use Rattle.std.specs.Prelude.{◌≡◌, ◌+◌, ◌^◌, ◌<◌, ◌≤
 ghost use Rattle.std.specs.List.{list_any};
 ghost use Rattle.std.specs.Option.{option_copied, ForSome};
 ghost use Rattle.cm_plain.specs.States.{HasRun, chunks_of as chunks_in, entry_among};
-ghost use Rattle.cm_plain.specs.Rooms.{can_stay as can_stay_in, first_fit as first_fit_in, is_free as is_free_in, least_free as least_free_in, lowest_unlinked as lowest_unlinked_in, meets as meets_in, is_new_tier, room_beside, spot_in as spot_of};
+ghost use Rattle.cm_plain.specs.Rooms.{can_stay as can_stay_in, first_fit as first_fit_in, is_free as is_free_in, least_free as least_free_in, lowest_unlinked as lowest_unlinked_in, meets as meets_in, is_new_tier as is_new_tier_in, room_beside, spot_in as spot_of};
 
 use crate::placed::Placed;
 use crate::room::{Room, Spot};
@@ -151,15 +151,15 @@ pub fn spot_in(room: Room, old: Option<&Placed>) -> Option<Spot>
 }
 
 /// Whether a value goes to a new tier.
-pub fn links(room: Room) -> bool
-    ensures { result ≡ is_new_tier room }
+pub fn is_new_tier(room: Room) -> bool
+    ensures { result ≡ is_new_tier_in room }
 {
     matches!(room, Room::NewTier(_))
 }
 
 /// Where a key's value goes, and whether it replaces an old one.
 #[derive(Clone, Copy)]
-pub struct Placing {
+pub struct Placement {
     pub room: Room,
     pub spot: Spot,
     pub replaces: bool,
@@ -167,29 +167,29 @@ pub struct Placing {
 
 ghost use Rattle.std.specs.Prelude.{MatchOption, None};
 ghost use Rattle.cm_geo.specs.Need.{Fits, need};
-ghost use Rattle.cm_plain.specs.Placings.{IsPlacing};
+ghost use Rattle.cm_plain.specs.Placements.{IsPlacement};
 ghost use Rattle.cm_plain.specs.Rooms.{room_for};
 
 /// Where a value of so many bytes goes that is placed for a key; none where there is no room.
-pub fn placing_of(
+pub fn placement_of(
     geo: &Geo,
     chain: &[u32],
     entries: &[Placed],
     key: &[u8],
     value_len: u32,
-) -> Option<Placing>
+) -> Option<Placement>
     requires runs { All (HasRun geo.now) entries.now }
     requires fits { Fits geo.now (length key.now) value_len }
     ensures { MatchOption result
         (spot_of (room_for geo.now (record { chain = chain.now; entries = entries.now }) key.now (need geo.now (length key.now) value_len)) (entry_among key.now entries.now) ≡ None)
-        (IsPlacing geo.now (record { chain = chain.now; entries = entries.now }) key.now value_len) }
+        (IsPlacement geo.now (record { chain = chain.now; entries = entries.now }) key.now value_len) }
 {
     let chunks = geo.need(key.len() as u32, value_len);
     let old = find_entry(entries, key);
     let replaces = old.is_some();
     let room = room(geo, chain, entries, old, chunks);
     let spot = spot_in(room, old)?;
-    Some(Placing {
+    Some(Placement {
         room,
         spot,
         replaces,

@@ -6,9 +6,9 @@ use crate::bytes::Bytes;
 use crate::entries::{put_entry, remove_key};
 use crate::op::Op;
 use crate::placed::Placed;
-use crate::reads::{got, kept, least_key, listed, missing, unmet};
+use crate::reads::{kept_reply, least_key, missing_reply, sorted_pairs, unmet_reply, value_reply};
 use crate::reply::Reply;
-use crate::rooms::{links, placing_of};
+use crate::rooms::{is_new_tier, placement_of};
 use crate::stop::NoMemory;
 use cm_geo::Geo;
 use std::alloc::Global;
@@ -42,7 +42,7 @@ impl PlainSegment {
     ghost use Rattle.cm_geo.specs.Hash.{segment_of_key};
     ghost use Rattle.cm_geo.specs.Need.{Fits};
     ghost use Rattle.cm_plain.specs.Limits.{KeepsLimits, segment_of};
-    ghost use Rattle.cm_plain.specs.Segments.{Answered, Places, Sweeps, SweepsLeast, Takes};
+    ghost use Rattle.cm_plain.specs.Segments.{AnswersOp, PlacesValue, AnswersSweeps, SweepsLeast, RemovesKey};
     ghost use Rattle.cm_plain.specs.States.{one_tier};
 
     /// One empty tier of a segment, which took no change; the segment is one of the geometry's. Takes
@@ -70,42 +70,47 @@ impl PlainSegment {
     pub fn answer(&mut self, alloc: Global, op: &Op, grant: bool) -> Result<Reply, NoMemory>
         requires limits { KeepsLimits self.old.geo op.now }
         requires here { segment_of self.old.geo op.now ≡ self.old.segment }
-        ensures ok { IfOk result (Answered self.old self.new grant op.now) }
+        ensures ok { IfOk result (AnswersOp self.old self.new grant op.now) }
         ensures least { IfOk result (SweepsLeast self.old.state op.now) }
         ensures err { OnErr result (self.new ≡ self.old) }
     {
         let entries = self.entries.as_slice();
         match op {
-            Op::Put { key, value } => self.place(alloc, key.as_slice(), value.as_slice(), grant),
-            Op::Get { key } => got(alloc, entries, key.as_slice()),
-            Op::PutIfAbsent { key, value } => match kept(alloc, entries, key.as_slice())? {
+            Op::Put { key, value } => self.put_value(
+                alloc,
+                key.as_slice(),
+                value.as_slice(),
+                grant,
+            ),
+            Op::Get { key } => value_reply(alloc, entries, key.as_slice()),
+            Op::PutIfAbsent { key, value } => match kept_reply(alloc, entries, key.as_slice())? {
                 Some(reply) => Ok(reply),
-                None => self.place(alloc, key.as_slice(), value.as_slice(), grant),
+                None => self.put_value(alloc, key.as_slice(), value.as_slice(), grant),
             },
-            Op::Replace { key, value } => match missing(entries, key.as_slice()) {
+            Op::Replace { key, value } => match missing_reply(entries, key.as_slice()) {
                 Some(reply) => Ok(reply),
-                None => self.place(alloc, key.as_slice(), value.as_slice(), grant),
+                None => self.put_value(alloc, key.as_slice(), value.as_slice(), grant),
             },
             Op::ReplaceIf {
                 key,
                 expected,
                 value,
-            } => match unmet(entries, key.as_slice(), expected.as_slice()) {
+            } => match unmet_reply(entries, key.as_slice(), expected.as_slice()) {
                 Some(reply) => Ok(reply),
-                None => self.place(alloc, key.as_slice(), value.as_slice(), grant),
+                None => self.put_value(alloc, key.as_slice(), value.as_slice(), grant),
             },
-            Op::Remove { key } => match missing(entries, key.as_slice()) {
+            Op::Remove { key } => match missing_reply(entries, key.as_slice()) {
                 Some(reply) => Ok(reply),
-                None => Ok(removed_or_worn(self.take(key.as_slice()))),
+                None => Ok(removed_or_worn(self.remove_entry(key.as_slice()))),
             },
             Op::RemoveIf { key, expected } => {
-                match unmet(entries, key.as_slice(), expected.as_slice()) {
+                match unmet_reply(entries, key.as_slice(), expected.as_slice()) {
                     Some(reply) => Ok(reply),
-                    None => Ok(removed_or_worn(self.take(key.as_slice()))),
+                    None => Ok(removed_or_worn(self.remove_entry(key.as_slice()))),
                 }
             }
             Op::Count { .. } => Ok(Reply::Count(entries.len() as u32)),
-            Op::List { .. } => Ok(Reply::Pairs(listed(alloc, entries)?)),
+            Op::List { .. } => Ok(Reply::Pairs(sorted_pairs(alloc, entries)?)),
             Op::Sweep { prefix, .. } => self.sweep(alloc, prefix.as_slice()),
         }
     }
@@ -126,14 +131,14 @@ impl PlainSegment {
 
     /// Takes away the entry of the least key with a prefix. Takes memory, before anything changes.
     fn sweep(&mut self, alloc: Global, prefix: &[u8]) -> Result<Reply, NoMemory>
-        ensures ok { IfOk result (Sweeps self.old self.new prefix.now) }
+        ensures ok { IfOk result (AnswersSweeps self.old self.new prefix.now) }
         ensures err { OnErr result (self.new ≡ self.old) }
     {
         let Some(key) = least_key(self.entries.as_slice(), prefix) else {
             return Ok(Reply::SweptAll);
         };
         let key = Bytes::of(alloc, key)?;
-        Ok(if self.take(key.as_slice()) {
+        Ok(if self.remove_entry(key.as_slice()) {
             Reply::Swept(key)
         } else {
             Reply::Worn
@@ -141,8 +146,8 @@ impl PlainSegment {
     }
 
     /// Takes a key's entry away; false where the segment took as many changes as it can count.
-    fn take(&mut self, key: &[u8]) -> bool
-        ensures { Takes self.old self.new key.now result }
+    fn remove_entry(&mut self, key: &[u8]) -> bool
+        ensures { RemovesKey self.old self.new key.now result }
     {
         if self.number == LAST_NUMBER {
             return false;
@@ -152,8 +157,8 @@ impl PlainSegment {
         true
     }
 
-    /// Places a value for a key, or tells why it can't be placed. Takes memory, before anything changes.
-    fn place(
+    /// Places a value for a key, or answers why it can't be placed. Takes memory, before anything changes.
+    fn put_value(
         &mut self,
         alloc: Global,
         key: &[u8],
@@ -162,30 +167,37 @@ impl PlainSegment {
     ) -> Result<Reply, NoMemory>
         requires fits { Fits self.old.geo (length key.now) (length value.now) }
         requires here { segment_of_key self.old.geo key.now ≡ self.old.segment }
-        ensures ok { IfOk result (Places self.old self.new grant key.now value.now) }
+        ensures ok { IfOk result (PlacesValue self.old self.new grant key.now value.now) }
         ensures err { OnErr result (self.new ≡ self.old) }
     {
         let chain = self.chain.as_slice();
         let entries = self.entries.as_slice();
-        let Some(placing) = placing_of(&self.geo, chain, entries, key, value.len() as u32) else {
+        let Some(placement) = placement_of(&self.geo, chain, entries, key, value.len() as u32)
+        else {
             return Ok(Reply::FullChain);
         };
         if self.number == LAST_NUMBER {
             return Ok(Reply::Worn);
         }
-        let links = links(placing.room);
-        if links && !grant {
+        let new_tier = is_new_tier(placement.room);
+        if new_tier && !grant {
             return Ok(Reply::FullSpent);
         }
         let entry = Placed {
-            place: placing.spot.place,
-            chunk: placing.spot.chunk,
+            place: placement.spot.place,
+            chunk: placement.spot.chunk,
             key: Bytes::of(alloc, key)?,
             value: Bytes::of(alloc, value)?,
         };
-        put_entry(&self.geo, &mut self.chain, &mut self.entries, links, entry)?;
+        put_entry(
+            &self.geo,
+            &mut self.chain,
+            &mut self.entries,
+            new_tier,
+            entry,
+        )?;
         self.number += 1;
-        Ok(if placing.replaces {
+        Ok(if placement.replaces {
             Reply::Replaced
         } else {
             Reply::New
@@ -194,8 +206,8 @@ impl PlainSegment {
 }
 
 /// The reply to a removal: it was done, or its change can't be counted any more.
-fn removed_or_worn(taken: bool) -> Reply
-    ensures { result ≡ (if taken then Reply.Removed else Reply.Worn) }
+fn removed_or_worn(removed: bool) -> Reply
+    ensures { result ≡ (if removed then Reply.Removed else Reply.Worn) }
 {
-    if taken { Reply::Removed } else { Reply::Worn }
+    if removed { Reply::Removed } else { Reply::Worn }
 }

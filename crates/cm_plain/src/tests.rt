@@ -13,16 +13,16 @@ use std::test::Fail;
 
 /// The only segment of a map, with its geometry.
 #[derive(Drop)]
-struct Tried {
+struct OnlySegment {
     geo: Geo,
     segment: PlainSegment,
     ghost geo_same: { segment.geo ≡ geo },
-    ghost only: { segment.segment ≡ 0 },
+    ghost index: { segment.segment ≡ 0 },
 }
 
-impl Tried {
-    fn new(alloc: Global, geo: Geo) -> Result<Tried, NoMemory> {
-        Ok(Tried {
+impl OnlySegment {
+    fn new(alloc: Global, geo: Geo) -> Result<OnlySegment, NoMemory> {
+        Ok(OnlySegment {
             geo,
             segment: PlainSegment::new(alloc, &geo, 0)?,
         })
@@ -140,8 +140,8 @@ fn fits(geo: &Geo, key: &Bytes, value: &Bytes) -> bool
         && geo.fits(key_len as u32, value_len as u32)
 }
 
-/// The name of a reply, with what it tells.
-fn shown(alloc: Global, reply: &Reply) -> Result<String, AllocError> {
+/// The name of a reply, with its data.
+fn reply_text(alloc: Global, reply: &Reply) -> Result<String, AllocError> {
     match reply {
         Reply::Kept(value) => format!(in alloc; "Kept {}", text(value)),
         Reply::Value(value) => format!(in alloc; "Value {}", text(value)),
@@ -164,28 +164,28 @@ fn text(bytes: &Bytes) -> &str {
 }
 
 /// A segment with 64 entries of one chunk each, k00 to k63, in as many changes.
-fn filled(rt: &impl Abort, alloc: Global, geo: Geo) -> Result<Tried, Fail> {
-    let mut tried = Tried::new(alloc, geo)?;
+fn full_tier(rt: &impl Abort, alloc: Global, geo: Geo) -> Result<OnlySegment, Fail> {
+    let mut only = OnlySegment::new(alloc, geo)?;
     for key in 0..64 {
         let line = format!(in alloc; "put k{key:02} 1")?;
-        let reply = tried.ask(rt, alloc, line.as_str(), false)?;
+        let reply = only.ask(rt, alloc, line.as_str(), false)?;
         assert!(rt; matches!(reply, Reply::New), "at {line}");
     }
-    Ok(tried)
+    Ok(only)
 }
 
 /// Asks one line after the other, and compares each reply and the number after it.
 fn compare(
     rt: &impl Abort,
     alloc: Global,
-    tried: &mut Tried,
+    only: &mut OnlySegment,
     grant: bool,
     rows: &[(&str, &str, u64)],
 ) -> Result<(), Fail> {
     for (line, reply, number) in rows {
-        let found = shown(alloc, &tried.ask(rt, alloc, line, grant)?)?;
+        let found = reply_text(alloc, &only.ask(rt, alloc, line, grant)?)?;
         assert_eq!(rt; found.as_str(), *reply, "at {line}");
-        assert_eq!(rt; tried.segment.number(), *number, "at {line}");
+        assert_eq!(rt; only.segment.number(), *number, "at {line}");
     }
     Ok(())
 }
@@ -228,8 +228,8 @@ fn answers_each_operation(rt: HostRuntime) -> Result<(), Fail> {
         ],
     ];
     for table in tables {
-        let mut tried = Tried::new(rt.alloc(), Geo::new(1, 1, 64, 4, 0)?)?;
-        compare(&rt, rt.alloc(), &mut tried, false, table)?;
+        let mut only = OnlySegment::new(rt.alloc(), Geo::new(1, 1, 64, 4, 0)?)?;
+        compare(&rt, rt.alloc(), &mut only, false, table)?;
     }
     Ok(())
 }
@@ -242,11 +242,11 @@ fn fills_a_chain(rt: HostRuntime) -> Result<(), Fail> {
         ((2, 1), true, "New", 65),
     ];
     for ((tiers, extra), grant, reply, number) in cases {
-        let mut tried = filled(&rt, rt.alloc(), Geo::new(1, tiers, 64, 4, extra)?)?;
+        let mut only = full_tier(&rt, rt.alloc(), Geo::new(1, tiers, 64, 4, extra)?)?;
         compare(
             &rt,
             rt.alloc(),
-            &mut tried,
+            &mut only,
             grant,
             &[("put k64 1", reply, number)],
         )?;
@@ -257,13 +257,13 @@ fn fills_a_chain(rt: HostRuntime) -> Result<(), Fail> {
 #[test]
 fn wants_free_chunks_in_a_row(rt: HostRuntime) -> Result<(), Fail> {
     for (other, reply, number) in [("remove k20", "FullChain", 66), ("remove k11", "New", 67)] {
-        let mut tried = filled(&rt, rt.alloc(), Geo::new(1, 1, 64, 4, 0)?)?;
+        let mut only = full_tier(&rt, rt.alloc(), Geo::new(1, 1, 64, 4, 0)?)?;
         let rows = [
             ("remove k10", "Removed", 65),
             (other, "Removed", 66),
             ("put big 123456789", reply, number),
         ];
-        compare(&rt, rt.alloc(), &mut tried, false, &rows)?;
+        compare(&rt, rt.alloc(), &mut only, false, &rows)?;
     }
     Ok(())
 }
@@ -280,10 +280,10 @@ fn copies_an_operation(rt: HostRuntime) -> Result<(), Fail> {
 
 #[test]
 fn lists_pairs_by_index(rt: HostRuntime) -> Result<(), Fail> {
-    let mut tried = Tried::new(rt.alloc(), Geo::new(1, 1, 64, 4, 0)?)?;
-    tried.ask(&rt, rt.alloc(), "put b 2", false)?;
-    tried.ask(&rt, rt.alloc(), "put a 1", false)?;
-    let Reply::Pairs(pairs) = tried.ask(&rt, rt.alloc(), "list", false)? else {
+    let mut only = OnlySegment::new(rt.alloc(), Geo::new(1, 1, 64, 4, 0)?)?;
+    only.ask(&rt, rt.alloc(), "put b 2", false)?;
+    only.ask(&rt, rt.alloc(), "put a 1", false)?;
+    let Reply::Pairs(pairs) = only.ask(&rt, rt.alloc(), "list", false)? else {
         panic!(rt; "no pairs");
     };
     assert_eq!(rt; pairs.len(), 2);

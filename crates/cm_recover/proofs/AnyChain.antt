@@ -13,7 +13,7 @@ use Rattle.cm_plain.proofs.Chains.{chain_with, leads_outside, short_beside}
 use Rattle.cm_plain.proofs.DistinctNumbers.{distinct_below}
 use Rattle.cm_plain.proofs.Each.{Pairs, all_from_pairs, pairs_from_all}
 use Rattle.cm_plain.proofs.ListElements.{In}
-use Rattle.cm_recover.specs.Allowed.{allowed_places, extra_before}
+use Rattle.cm_recover.specs.AllowedPlaces.{allowed_places, extra_before}
 
 -- the chain from a place on
 chain_from_is_chain : (links : ℕ) (geo : Geo) (words places : List ℕ) (place : ℕ) → IsChain geo places → IsChain geo (chain_from links geo words places place).places

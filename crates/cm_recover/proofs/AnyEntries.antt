@@ -16,13 +16,13 @@ use Rattle.cm_plain.specs.Changes.{entry_at}
 use Rattle.cm_plain.specs.Readings.{Reading, Stands, entry, reading_at, wrong_checksum, wrong_padding, wrong_lengths}
 use Rattle.cm_plain.proofs.Apart.{Rising, fresh_apart, rising_with}
 use Rattle.cm_plain.proofs.Each.{Pairs, all_from_pairs, each_fails, each_weaker}
-use Rattle.cm_plain.proofs.Placing.{each_with, keys_with}
+use Rattle.cm_plain.proofs.Placements.{each_with, keys_with}
 use Rattle.cm_plain.proofs.States.{Differs}
 use Rattle.cm_plain.proofs.EntryWords.{has_words}
 use Rattle.cm_plain.proofs.ListElements.{In, in_has, in_to, some_any}
 use Rattle.cm_recover.specs.declared.cause.Cause.TheVariants as cause
-use Rattle.cm_recover.specs.Occupied.{OccupiedSlot, occupied_slots}
-use Rattle.cm_recover.specs.Allowed.{allowed_places}
+use Rattle.cm_recover.specs.OccupiedSlots.{OccupiedSlot, occupied_slots}
+use Rattle.cm_recover.specs.AllowedPlaces.{allowed_places}
 use Rattle.cm_recover.specs.Judgements.{Judgement, is_dropped, is_kept, judgement, judgement_beside, judgement_in_tier, judgement_on_entry, judgement_on_reading}
 use Rattle.cm_recover.specs.KeptSlots.{KeptEntries, kept_in, kept_of, kept_state, kept_with}
 use Rattle.cm_recover.proofs.AnyChain.{allowed_chain}
@@ -46,11 +46,11 @@ kept_beside geo kept placed it e = elim (cases_Bool (list_any (λ other. bytes_e
     one a b e = cc e
 
 -- one that a slot points to
-record IsTakenUp (geo : Geo) (segment : ℕ) (kept : List Placed) (placed it : Placed) : Type 0 where
+record IsOfSegment (geo : Geo) (segment : ℕ) (kept : List Placed) (placed it : Placed) : Type 0 where
   here : segment_of_key geo placed.key ≡ segment
   beside : IsBeside geo kept placed it
 
-kept_on_entry : (geo : Geo) (segment : ℕ) (kept : List Placed) (fingerprint : ℕ) (placed it : Placed) → judgement_on_entry geo segment kept fingerprint placed ≡ is_kept it → IsTakenUp geo segment kept placed it
+kept_on_entry : (geo : Geo) (segment : ℕ) (kept : List Placed) (fingerprint : ℕ) (placed it : Placed) → judgement_on_entry geo segment kept fingerprint placed ≡ is_kept it → IsOfSegment geo segment kept placed it
 kept_on_entry geo segment kept fingerprint placed it e = elim (eqb_tells (segment_of_key geo placed.key) segment) [
   | inr fails ↦ (let f = fails.0 in let clash : is_dropped cause.Segment ≡ is_kept it = rw f at e in cc clash)
   | inl here ↦ (let h = here.0 in elim (cases_Bool (fingerprint_in geo (hash placed.key) == fingerprint)) [

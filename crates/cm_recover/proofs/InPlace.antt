@@ -26,14 +26,14 @@ use Rattle.cm_plain.proofs.Planned.{StaysAt, new_at, old_at, stays_at}
 use Rattle.cm_plain.proofs.StatePairs.{placed_in, same_in}
 use Rattle.cm_plain.proofs.States.{each_differs}
 use Rattle.cm_recover.specs.declared.cause.Cause.TheVariants as cause
-use Rattle.cm_recover.specs.Occupied.{OccupiedSlot}
+use Rattle.cm_recover.specs.OccupiedSlots.{OccupiedSlot}
 use Rattle.cm_recover.specs.Judgements.{judgement}
 use Rattle.cm_recover.specs.Outcomes.{IsChangeOutcome}
-use Rattle.cm_recover.proofs.InPlaceWords.{bad_filling, bad_sum, good, reads_key}
-use Rattle.cm_recover.proofs.Judging.{by_reading}
-use Rattle.cm_recover.proofs.Keeping.{IsJudged}
-use Rattle.cm_recover.proofs.Roles.{IsIts, IsOf, its_new, its_old, value_is}
-use Rattle.cm_recover.proofs.Walking.{StandsIn}
+use Rattle.cm_recover.proofs.InPlaceWords.{bad_padding, bad_checksum, good, reads_key}
+use Rattle.cm_recover.proofs.SlotJudgements.{by_reading}
+use Rattle.cm_recover.proofs.KeptSlots.{IsJudged}
+use Rattle.cm_recover.proofs.Candidates.{IsCandidate, IsOf, new_candidate, old_candidate, value_is}
+use Rattle.cm_recover.proofs.OccupiedSlots.{StandsIn}
 
 -- two lists of bytes are equal or not
 same_or_not : (a b : List ℕ) → (a ≡ b) ⊎ (a ≢ b)
@@ -63,7 +63,7 @@ between_at geo words place chunk key old new place_is chunk_is old_key new_key b
     })))
 
 -- the two entries between which a value is replaced in place, and where
-record AreBoth (geo : Geo) (segment : ℕ) (words : List ℕ) (state : State) (change : Change) (place chunk : ℕ) (old new : Placed) : Type 0 where
+record AreOldAndNew (geo : Geo) (segment : ℕ) (words : List ℕ) (state : State) (change : Change) (place chunk : ℕ) (old new : Placed) : Type 0 where
   in_place : change.kind ≡ kind.InPlace
   old_in : In old state.entries
   old_key : old.key ≡ change.key
@@ -82,13 +82,13 @@ record AreBoth (geo : Geo) (segment : ℕ) (words : List ℕ) (state : State) (c
 
 -- an entry like one of the two, with a value as long
 record IsLike (geo : Geo) (state : State) (change : Change) (place chunk : ℕ) (like : Placed) : Type 0 where
-  its : IsIts geo state change like
+  its : IsCandidate geo state change like
   place_is : like.place ≡ place
   chunk_is : like.chunk ≡ chunk
   run : HasRun geo like
 
 -- a value as long with the old checksum is an outcome
-an_outcome : (geo : Geo) (segment : ℕ) (words : List ℕ) (state : State) (change : Change) (place chunk : ℕ) (old new : Placed) (it : List ℕ) → AreBoth geo segment words state change place chunk old new
+an_outcome : (geo : Geo) (segment : ℕ) (words : List ℕ) (state : State) (change : Change) (place chunk : ℕ) (old new : Placed) (it : List ℕ) → AreOldAndNew geo segment words state change place chunk old new
     → (length it ≡ length old.value) ⊎ (length it ≡ length new.value) → entry_checksum change.key it ≡ entry_checksum change.key old.value → IsChangeOutcome geo state change (Some it)
 an_outcome geo segment words state change place chunk old new it both long stored_checksum = elim (same_or_not it old.value) [
   | inl same ↦ inl (inl (both.old_value ∙ ap Some (sym same)))
@@ -110,7 +110,7 @@ an_outcome geo segment words state change place chunk old new it both long store
 
 -- an entry with such a value may stand
 its_value : (geo : Geo) (state : State) (change : Change) (place chunk : ℕ) (like : Placed) (it : List ℕ) → IsLike geo state change place chunk like → length it ≡ length like.value
-    → IsChangeOutcome geo state change (Some it) → IsIts geo state change (entry_at change.key it place chunk)
+    → IsChangeOutcome geo state change (Some it) → IsCandidate geo state change (entry_at change.key it place chunk)
 its_value geo state change place chunk like it is long outcome =
     let made : Placed = entry_at change.key it place chunk in
     let same : need geo (length change.key) (length it) ≡ chunks_of geo like = rw (is.its.key_is, long) refl in
@@ -130,15 +130,15 @@ run_of_value geo state change place chunk like it is long = record {
 
 -- a slot of such an entry, by what is read there while the old checksum stands
 by_old_sum : (geo : Geo) (segment : ℕ) (words : List ℕ) (state : State) (change : Change) (at : OccupiedSlot) (chunk : ℕ) (old new like : Placed) → length words ≡ words_in_segment geo → StandsIn geo words at
-    → at.slot ≡ slot_for geo change.key chunk → AreBoth geo segment words state change at.place chunk old new → IsLike geo state change at.place chunk like
+    → at.slot ≡ slot_for geo change.key chunk → AreOldAndNew geo segment words state change at.place chunk old new → IsLike geo state change at.place chunk like
     → ((it : List ℕ) → length it ≡ length like.value → (length it ≡ length old.value) ⊎ (length it ≡ length new.value))
     → word_at words (chunk_at geo at.place chunk) ≡ head_of change.key like.value → HasKeyWords geo words at.place chunk change.key
     → word_at words (chunk_at geo at.place chunk + 1) ≡ entry_checksum change.key old.value
     → IsJudged (judgement geo segment words (chain_of geo words).places) (IsOf geo segment words state change) at
 by_old_sum geo segment words state change at chunk old new like length_is stands slot_is both is long head has_key stored_checksum =
     elim (reads_key geo words at.place chunk change.key like.value length_is both.low fits inside head has_key) [
-      | bad_sum e ↦ inr (record { why = cause.Checksum; of_torn = tt; is = λ kept. by_reading geo segment words (chain_of geo words).places kept at change.key chunk wrong_checksum stands.chained slot_is low e })
-      | bad_filling e ↦ inr (record { why = cause.Padding; of_torn = tt; is = λ kept. by_reading geo segment words (chain_of geo words).places kept at change.key chunk wrong_padding stands.chained slot_is low e })
+      | bad_checksum e ↦ inr (record { why = cause.Checksum; of_torn = tt; is = λ kept. by_reading geo segment words (chain_of geo words).places kept at change.key chunk wrong_checksum stands.chained slot_is low e })
+      | bad_padding e ↦ inr (record { why = cause.Padding; of_torn = tt; is = λ kept. by_reading geo segment words (chain_of geo words).places kept at change.key chunk wrong_padding stands.chained slot_is low e })
       | good it reads as_long sum_is ↦ inl (
         entry_at change.key it at.place chunk,
         record {
@@ -171,7 +171,7 @@ by_old_sum geo segment words state change at chunk old new like length_is stands
 record HasBoth (geo : Geo) (segment : ℕ) (words : List ℕ) (state : State) (change : Change) (place chunk : ℕ) : Type 0 where
   old : Placed
   new : Placed
-  both : AreBoth geo segment words state change place chunk old new
+  both : AreOldAndNew geo segment words state change place chunk old new
 
 has_both : (geo : Geo) (segment : ℕ) (words : List ℕ) (state : State) (op : Op) (change : Change) (place chunk : ℕ) → IsState geo segment state → Plans geo segment state op change → Torn geo words state change
     → change.kind ≡ kind.InPlace → BeginsAt change.old_run place chunk ⊎ BeginsAt change.new_run place chunk → HasBoth geo segment words state change place chunk
@@ -214,7 +214,7 @@ has_both geo segment words state op change place chunk is plans torn in_place be
         (ap (λ (p : Placed). p.place) same ∙ old.place_is, ap (λ (p : Placed). p.chunk) same ∙ old.chunk_is)
     position stays i key_is (inr h) = subst (λ (r : Option Run). BeginsAt r place chunk) stays.run_is h
 
--- such a slot is of an entry that may be kept, or it is dropped for its checksum or its filling
+-- such a slot is of an entry that may be kept, or it is dropped for its checksum or its padding
 pub in_place_judged : (geo : Geo) (segment : ℕ) (words : List ℕ) (state : State) (op : Op) (change : Change) (at : OccupiedSlot) (chunk : ℕ) → length words ≡ words_in_segment geo → IsState geo segment state
     → Plans geo segment state op change → Torn geo words state change → change.kind ≡ kind.InPlace → StandsIn geo words at → BeginsAt change.old_run at.place chunk ⊎ BeginsAt change.new_run at.place chunk
     → at.slot ≡ slot_for geo change.key chunk → IsJudged (judgement geo segment words (chain_of geo words).places) (IsOf geo segment words state change) at
@@ -222,9 +222,9 @@ in_place_judged geo segment words state op change at chunk length_is is plans to
     let has = has_both geo segment words state op change at.place chunk is plans torn in_place begins in
     let both = has.both in
     let like_old : IsLike geo state change at.place chunk has.old =
-    record { its = its_old geo segment state change has.old is both.old_in both.old_key; place_is = both.old_place; chunk_is = both.old_chunk; run = both.old_is.run } in
+    record { its = old_candidate geo segment state change has.old is both.old_in both.old_key; place_is = both.old_place; chunk_is = both.old_chunk; run = both.old_is.run } in
     let like_new : IsLike geo state change at.place chunk has.new =
-    record { its = its_new geo segment state op change has.new is plans both.new_in both.new_key; place_is = both.new_place; chunk_is = both.new_chunk; run = both.new_is.run } in
+    record { its = new_candidate geo segment state op change has.new is plans both.new_in both.new_key; place_is = both.new_place; chunk_is = both.new_chunk; run = both.new_is.run } in
     elim both.between.stored_checksum [
       | inr reads ↦ inl (
         has.new,

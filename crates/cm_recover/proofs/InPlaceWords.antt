@@ -31,34 +31,34 @@ tells_lengths head key value short e = record { key_is = low head (length key) (
 fits_there : (geo : Geo) (chunk head : ℕ) (key value : List ℕ) → TellsLengths head key value → Fits geo (length key) (length value) → chunk + need geo (length key) (length value) ≤ geo.chunks
     → lengths_fit geo chunk head ≡ true
 fits_there geo chunk head key value tells fits inside =
-    rw (tells.key_is, tells.value_is) (all_of (length key) (length value) (need geo (length key) (length value)) chunk geo.chunks fits.key_some fits.key_short fits.value_short fits.few_chunks inside)
+    rw (tells.key_is, tells.value_is) (all_of (length key) (length value) (need geo (length key) (length value)) chunk geo.chunks fits.key_nonempty fits.key_short fits.value_short fits.run_short inside)
   where
     all_of : (key value need chunk chunks : ℕ) → 1 ≤ key → key ≤ MAX_KEY_BYTES → value ≤ MAX_VALUE_BYTES → need ≤ MAX_RUN_CHUNKS → chunk + need ≤ chunks
         → (nat_le 1 key && (nat_le key MAX_KEY_BYTES && (nat_le value MAX_VALUE_BYTES && (nat_le need MAX_RUN_CHUNKS && nat_le (chunk + need) chunks)))) ≡ true
     all_of key value need chunk chunks a b c d e = grind (arith, nat_tests)
 
--- what is read there: a wrong checksum or filling, or the key and a value as long as the first word tells, with the checksum that stands there
+-- what is read there: a wrong checksum or padding, or the key and a value as long as the first word tells, with the checksum that stands there
 pub data ReadsKey (geo : Geo) (words : List ℕ) (place chunk : ℕ) (key value : List ℕ) : Type 0 where
-  bad_sum : reading_at geo words place chunk ≡ wrong_checksum → ReadsKey geo words place chunk key value
-  bad_filling : reading_at geo words place chunk ≡ wrong_padding → ReadsKey geo words place chunk key value
+  bad_checksum : reading_at geo words place chunk ≡ wrong_checksum → ReadsKey geo words place chunk key value
+  bad_padding : reading_at geo words place chunk ≡ wrong_padding → ReadsKey geo words place chunk key value
   good : (it : List ℕ) → reading_at geo words place chunk ≡ entry (record { key = key; value = it }) → length it ≡ length value
       → entry_checksum key it ≡ word_at words (chunk_at geo place chunk + 1) → ReadsKey geo words place chunk key value
 
--- the tests of the checksum and of the filling, one after the other
+-- the tests of the checksum and of the padding, one after the other
 data Tested (geo : Geo) (chunk head stored_checksum : ℕ) (key value : List ℕ) : Type 0 where
-  sum_differs : reading_of geo chunk head stored_checksum key value ≡ wrong_checksum → Tested geo chunk head stored_checksum key value
-  filling_differs : reading_of geo chunk head stored_checksum key value ≡ wrong_padding → Tested geo chunk head stored_checksum key value
+  checksum_differs : reading_of geo chunk head stored_checksum key value ≡ wrong_checksum → Tested geo chunk head stored_checksum key value
+  padding_differs : reading_of geo chunk head stored_checksum key value ≡ wrong_padding → Tested geo chunk head stored_checksum key value
   passed : checksum head key value ≡ stored_checksum → is_padded (value_len head) value ≡ true
       → reading_of geo chunk head stored_checksum key value ≡ entry (record { key = take (key_len head) key; value = take (value_len head) value }) → Tested geo chunk head stored_checksum key value
 
 tested : (geo : Geo) (chunk head stored_checksum : ℕ) (key value : List ℕ) → lengths_fit geo chunk head ≡ true → Tested geo chunk head stored_checksum key value
 tested geo chunk head stored_checksum key value fit = elim (eqb_tells (checksum head key value) stored_checksum) [
-  | inr fails ↦ (let f = fails.0 in sum_differs (rw (fit, f) refl))
+  | inr fails ↦ (let f = fails.0 in checksum_differs (rw (fit, f) refl))
   | inl same ↦ (let s = same.0 in elim (cases_Bool (is_padded (key_len head) key)) [
-    | inr key_not ↦ filling_differs (rw (fit, s, key_not) refl)
-    | inl key_filled ↦ elim (cases_Bool (is_padded (value_len head) value)) [
-      | inr value_not ↦ filling_differs (rw (fit, s, key_filled, value_not) refl)
-      | inl value_filled ↦ passed same.1 value_filled (rw (fit, s, key_filled, value_filled) refl)
+    | inr key_not ↦ padding_differs (rw (fit, s, key_not) refl)
+    | inl key_padded ↦ elim (cases_Bool (is_padded (value_len head) value)) [
+      | inr value_not ↦ padding_differs (rw (fit, s, key_padded, value_not) refl)
+      | inl value_padded ↦ passed same.1 value_padded (rw (fit, s, key_padded, value_padded) refl)
     ]
   ])
 ]
@@ -69,11 +69,11 @@ good_there : (geo : Geo) (words : List ℕ) (place chunk head : ℕ) (key value 
     → reading_at geo words place chunk ≡ entry (record { key = take (key_len head) key_found; value = take (value_len head) value_found })
     → checksum head key_found value_found ≡ word_at words (chunk_at geo place chunk + 1) → ReadsKey geo words place chunk key value
 unfolding entry_checksum
-good_there geo words place chunk head key value key_found value_found tells head_is key_words size value_filled reads sum_is =
+good_there geo words place chunk head key value key_found value_found tells head_is key_words size value_padded reads sum_is =
     let it : List ℕ = take (value_len head) value_found in
     let key_is : take (key_len head) key_found ≡ key = rw (key_words, tells.key_is) (take-append_seam key (replicate (8 * parts_for 8 (length key) - length key) 0)) in
     let long : length it ≡ length value = length-take-le (value_len head) value_found (whole_words (value_len head) (length value_found) size) ∙ tells.value_is in
-    let value_words : value_found ≡ padded it = padded_is (value_len head) value_found size value_filled in
+    let value_words : value_found ≡ padded it = padded_is (value_len head) value_found size value_padded in
     let head_it : head ≡ head_of key it = head_is ∙ ap (λ (n : ℕ). length key + 2 ^ 32 * n) (sym long) in
     let stored_checksum : entry_checksum key it ≡ checksum head key_found value_found = checksum_same (head_of key it) head (padded key) key_found (padded it) value_found (sym head_it) (sym key_words) (sym value_words) in
     good it (subst (λ (k : List ℕ). reading_at geo words place chunk ≡ entry (record { key = k; value = it })) key_is reads) long (stored_checksum ∙ sum_is)
@@ -91,7 +91,7 @@ reads_key geo words place chunk key value length_is low fits inside head_is has_
     let inside' : chunk + need geo (key_len head) (value_len head) ≤ geo.chunks = rw (tells.key_is, tells.value_is) inside in
     let key_words : key_found ≡ padded key = ap (λ (n : ℕ). bytes_at geo words place chunk 0 (parts_for 8 n)) tells.key_is ∙ has_key in
     elim (tested geo chunk head (word_at words (chunk_at geo place chunk + 1)) key_found value_found (fits_there geo chunk head key value tells fits inside)) [
-      | sum_differs e ↦ bad_sum e
-      | filling_differs e ↦ bad_filling e
-      | passed sum_is value_filled e ↦ good_there geo words place chunk head key value key_found value_found tells head_is key_words (value_size geo words place chunk head length_is low inside') value_filled e sum_is
+      | checksum_differs e ↦ bad_checksum e
+      | padding_differs e ↦ bad_padding e
+      | passed sum_is value_padded e ↦ good_there geo words place chunk head key value key_found value_found tells head_is key_words (value_size geo words place chunk head length_is low inside') value_padded e sum_is
     ]

@@ -14,15 +14,15 @@ use Rattle.cm_plain.proofs.OneState.{same_entries}
 use Rattle.cm_plain.proofs.ListElements.{In, all_in, in_from, in_has, in_to}
 use Rattle.cm_plain.proofs.StatePairs.{apart_in, placed_in, same_in}
 use Rattle.cm_plain.proofs.States.{each_differs, each_rising, same_state}
-use Rattle.cm_recover.specs.Occupied.{OccupiedSlot, occupied_slots}
+use Rattle.cm_recover.specs.OccupiedSlots.{OccupiedSlot, occupied_slots}
 use Rattle.cm_recover.specs.Judgements.{judgement}
 use Rattle.cm_recover.specs.KeptSlots.{KeptEntries, kept_in, kept_of, kept_state}
 use Rattle.cm_recover.specs.Laws.{KeepsStates}
-use Rattle.cm_recover.proofs.Allowing.{all_allowed}
-use Rattle.cm_recover.proofs.Walking.{IsElsewhere, StandsIn, occupied_from, occupied_once, occupied_to}
-use Rattle.cm_recover.proofs.Keeping.{HasKey, IsJudge, IsKeeping, keeps}
-use Rattle.cm_recover.proofs.Dropping.{AreOfKeys, all_kept}
-use Rattle.cm_recover.proofs.Judging.{by_entry}
+use Rattle.cm_recover.proofs.Allowance.{all_allowed}
+use Rattle.cm_recover.proofs.OccupiedSlots.{IsElsewhere, StandsIn, occupied_from, occupied_once, occupied_to}
+use Rattle.cm_recover.proofs.KeptSlots.{HasKey, IsJudge, IsKeeping, keeps}
+use Rattle.cm_recover.proofs.NoDrops.{AreOfKeys, all_kept}
+use Rattle.cm_recover.proofs.SlotJudgements.{by_entry}
 
 -- a slot is that of an entry of the state
 record IsOf (geo : Geo) (words : List ℕ) (state : State) (at : OccupiedSlot) (placed : Placed) : Type 0 where
@@ -109,10 +109,10 @@ pub keeps_states : (geo : Geo) (words_of : ℕ → List ℕ) → KeepsAllowance 
 unfolding kept_in
 keeps_states geo words_of keeps segment state below lawful =
     let words : List ℕ = words_of segment in
-    let all = keeps_all geo segment words state lawful.tells in
+    let all = keeps_all geo segment words state lawful.represents in
     let allowed_is = all_allowed geo words_of segment keeps below in
     let entries : (kept_in geo words_of segment).entries ≡ state.entries = rw allowed_is all.entries in
     record {
-      state_is = same_state (kept_state geo words_of segment) state (allowed_is ∙ lawful.tells.chain) entries;
+      state_is = same_state (kept_state geo words_of segment) state (allowed_is ∙ lawful.represents.chain) entries;
       no_drops = rw allowed_is all.drops;
     }

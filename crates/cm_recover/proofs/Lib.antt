@@ -1,12 +1,12 @@
 -- The lemmas of the crate.
-pub mod Walking
-pub mod Allowing
-pub mod Keeping
-pub mod Dropping
-pub mod Judging
+pub mod OccupiedSlots
+pub mod Allowance
+pub mod KeptSlots
+pub mod NoDrops
+pub mod SlotJudgements
 pub mod LawfulWords
 pub mod InPlaceWords
-pub mod Roles
+pub mod Candidates
 pub mod InPlace
 pub mod TornSlots
 pub mod TornOutcome

@@ -5,7 +5,7 @@ use Rattle.std.proofs.lemmas.List.{length-take}
 use Rattle.std.proofs.lemmas.List.Sums.{sum_by-cons}
 use Rattle.cm_geo.specs.declared.geo.Geo.{Geo}
 use Rattle.cm_plain.specs.FoundChains.{KeepsAllowance, chain_of}
-use Rattle.cm_recover.specs.Allowed.{allowed_places, extra_before}
+use Rattle.cm_recover.specs.AllowedPlaces.{allowed_places, extra_before}
 use Rattle.cm_recover.specs.KeptSlots.{kept_state}
 use Rattle.cm_recover.specs.Recovered.{Recovered}
 use Rattle.cm_recover.specs.Laws.{KeepsRecovered}
@@ -63,7 +63,7 @@ tiers_left geo old segment =
 keeps_allowance : (geo : Geo) (old new : ℕ → List ℕ) → Recovered geo old new → KeepsAllowance geo new
 keeps_allowance geo old new recovered =
     (are_within (λ s. length (chain_of geo (new s)).places - 1) (λ s. length (chain_of geo (old s)).places - 1) geo.extra geo.segments (λ s below.
-    (let chain : (chain_of geo (new s)).places ≡ allowed_places geo old s = (recovered.stand s below).apart.tells.chain in
+    (let chain : (chain_of geo (new s)).places ≡ allowed_places geo old s = (recovered.stand s below).apart.represents.chain in
     let len : length (chain_of geo (new s)).places ≡ length (allowed_places geo old s) = ap (λ (l : List ℕ). length l) chain in
     let left = tiers_left geo old s in
     record { of_it = rw len left.0; left = rw len left.1 }))).within_limit

@@ -19,17 +19,17 @@ use Rattle.cm_plain.proofs.EntrySets.{found_is, found_none, found_there}
 use Rattle.cm_plain.proofs.ListElements.{In, all_in, in_from, in_has, in_left, in_to}
 use Rattle.cm_plain.proofs.Planned.{begins_or_not, old_at}
 use Rattle.cm_plain.proofs.StatePairs.{placed_in, same_in}
-use Rattle.cm_recover.specs.Occupied.{OccupiedSlot, occupied_slots}
-use Rattle.cm_recover.specs.Allowed.{allowed_places}
+use Rattle.cm_recover.specs.OccupiedSlots.{OccupiedSlot, occupied_slots}
+use Rattle.cm_recover.specs.AllowedPlaces.{allowed_places}
 use Rattle.cm_recover.specs.Judgements.{judgement}
 use Rattle.cm_recover.specs.KeptSlots.{KeptEntries, kept_in, kept_of}
 use Rattle.cm_recover.specs.Outcomes.{IsChangeOutcome, Outcome}
 use Rattle.cm_recover.specs.Laws.{IsTorn, IsCauseOfTorn, KeepsOutcomes}
-use Rattle.cm_recover.proofs.Allowing.{all_allowed}
+use Rattle.cm_recover.proofs.Allowance.{all_allowed}
 use Rattle.cm_recover.proofs.TornSlots.{ReadsIts, by_kind, judged, new_judged, old_judged, others_judged}
-use Rattle.cm_recover.proofs.Keeping.{HasKey, IsKeeping, keeps}
-use Rattle.cm_recover.proofs.Roles.{IsIts, IsOf, IsTheirs, MayBeKept, judges, value_is}
-use Rattle.cm_recover.proofs.Walking.{StandsIn, occupied_from, occupied_to}
+use Rattle.cm_recover.proofs.KeptSlots.{HasKey, IsKeeping, keeps}
+use Rattle.cm_recover.proofs.Candidates.{IsCandidate, IsOf, IsOfOtherKey, MayBeKept, judges, value_is}
+use Rattle.cm_recover.proofs.OccupiedSlots.{StandsIn, occupied_from, occupied_to}
 
 -- what is kept of torn words, where the allowance covers all their tiers
 abbrev kept_whole : Geo → ℕ → List ℕ → KeptEntries
@@ -85,7 +85,7 @@ may_of : (geo : Geo) (segment : ℕ) (words : List ℕ) (state : State) (change 
 may_of geo segment words state change kept placed whole i = in_has (MayBeKept geo segment words state change) kept.entries placed whole.more.sound.may i
 
 -- one of another key is one of the state
-their_role : (geo : Geo) (state : State) (change : Change) (placed : Placed) → IsTheirs state change placed ⊎ IsIts geo state change placed → placed.key ≢ change.key → In placed state.entries
+their_role : (geo : Geo) (state : State) (change : Change) (placed : Placed) → IsOfOtherKey state change placed ⊎ IsCandidate geo state change placed → placed.key ≢ change.key → In placed state.entries
 their_role geo state change placed (inl their) ne = their.is_in
 their_role geo state change placed (inr its) ne = absurd (ne its.key_is)
 
@@ -186,7 +186,7 @@ its_outcome : (geo : Geo) (segment : ℕ) (words : List ℕ) (state : State) (op
     → IsWhole geo segment words state change kept → IsChangeOutcome geo state change (value_of change.key (state_of geo words kept))
 its_outcome geo segment words state op change kept is_torn whole = by (entry_of change.key (state_of geo words kept)) refl
   where
-    its_role : (placed : Placed) → IsTheirs state change placed ⊎ IsIts geo state change placed → placed.key ≡ change.key → IsChangeOutcome geo state change (Some placed.value)
+    its_role : (placed : Placed) → IsOfOtherKey state change placed ⊎ IsCandidate geo state change placed → placed.key ≡ change.key → IsChangeOutcome geo state change (Some placed.value)
     its_role placed (inl their) key_is = absurd (their.other key_is)
     its_role placed (inr its) key_is = its.outcome
 

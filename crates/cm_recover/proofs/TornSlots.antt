@@ -1,4 +1,4 @@
--- Each slot of torn words is of an entry that may be kept, or it is dropped for its checksum or its filling.
+-- Each slot of torn words is of an entry that may be kept, or it is dropped for its checksum or its padding.
 use Rattle.std.proofs.Common.{◌≡◌, ◌≢◌, ℕ, ◌⊎◌, List, Some, refl, ap, sym, subst, ◌∙◌, inl, inr}
 use Rattle.cm_geo.specs.declared.geo.Geo.{Geo}
 use Rattle.cm_plain.specs.declared.op.Op.{Op}
@@ -14,13 +14,13 @@ use Rattle.cm_plain.specs.Torn.{BeginsAt, IsChangeSlot, IsOtherSlot, IsPointedIn
 use Rattle.cm_plain.proofs.ListElements.{In, in_from, in_to}
 use Rattle.cm_plain.proofs.Planned.{IsAtEntry, begins_or_not, new_at, old_at}
 use Rattle.cm_plain.proofs.StatePairs.{placed_in}
-use Rattle.cm_recover.specs.Occupied.{OccupiedSlot}
+use Rattle.cm_recover.specs.OccupiedSlots.{OccupiedSlot}
 use Rattle.cm_recover.specs.Judgements.{judgement}
 use Rattle.cm_recover.specs.Laws.{IsTorn}
 use Rattle.cm_recover.proofs.InPlace.{in_place_judged}
-use Rattle.cm_recover.proofs.Keeping.{IsJudged}
-use Rattle.cm_recover.proofs.Roles.{IsOf, its_new, its_old}
-use Rattle.cm_recover.proofs.Walking.{StandsIn}
+use Rattle.cm_recover.proofs.KeptSlots.{IsJudged}
+use Rattle.cm_recover.proofs.Candidates.{IsOf, new_candidate, old_candidate}
+use Rattle.cm_recover.proofs.OccupiedSlots.{StandsIn}
 
 -- a change in place, or another one
 pub by_kind : (it : PlanKind) → (it ≡ kind.InPlace) ⊎ (it ≢ kind.InPlace)
@@ -75,11 +75,11 @@ old_judged geo segment words state change at chunk is torn apart stands old slot
           here = placed.here;
           chained = subst (λ (p : ℕ). In p (chain_of geo words).places) (sym old.place_is) stands.chained;
           run = placed.run;
-          role = inr (its_old geo segment state change old.placed is old.is_in old.key_is);
+          role = inr (old_candidate geo segment state change old.placed is old.is_in old.key_is);
         };
         place_is = old.place_is;
         slot_is = slot;
-        reads = torn.old_whole old.placed (record { there = in_to state.entries old.placed old.is_in; key_is = old.key_is }) apart (points_to geo words at old.placed stands old.place_is slot);
+        reads = torn.old_stands old.placed (record { there = in_to state.entries old.placed old.is_in; key_is = old.key_is }) apart (points_to geo words at old.placed stands old.place_is slot);
       };
     }
 
@@ -98,11 +98,11 @@ new_judged geo segment words state op change at chunk is plans torn apart stands
           here = placed.here;
           chained = subst (λ (p : ℕ). In p (chain_of geo words).places) (sym new.place_is) stands.chained;
           run = placed.run;
-          role = inr (its_new geo segment state op change new.placed is plans new.is_in new.key_is);
+          role = inr (new_candidate geo segment state op change new.placed is plans new.is_in new.key_is);
         };
         place_is = new.place_is;
         slot_is = slot;
-        reads = torn.new_whole new.placed (record { there = in_to (after geo change state).entries new.placed new.is_in; key_is = new.key_is })
+        reads = torn.new_stands new.placed (record { there = in_to (after geo change state).entries new.placed new.is_in; key_is = new.key_is })
             (λ h. not_old (subst (λ (p : ℕ). BeginsAt change.old_run p chunk) new.place_is (subst (λ (c : ℕ). BeginsAt change.old_run new.placed.place c) new.chunk_is h)))
             (points_to geo words at new.placed stands new.place_is slot);
       };

@@ -26,7 +26,7 @@ use Rattle.cm_plain.specs.Readings.{Stands}
 use Rattle.cm_plain.specs.Slots.{IsPointed, Slot, slot_for, slot_in, word_at}
 use Rattle.cm_plain.specs.FoundChains.{chain_of, chain_from}
 use Rattle.cm_plain.specs.Lawful.{EndsHead, HasBit, LawfulApart, Represents, TierRepresents}
-use Rattle.cm_plain.proofs.Placing.{placed_state}
+use Rattle.cm_plain.proofs.Placements.{placed_state}
 use Rattle.cm_plain.proofs.RestingTorn.{resting_torn}
 use Rattle.cm_plain.proofs.OutsideHead.{resting_many}
 use Rattle.cm_plain.proofs.ListElements.{In, in_from}
@@ -98,8 +98,8 @@ one_is geo segment = record {
   keys = λ i j d before below. absurd (omega arith);
 }
 
-zeros_tell : (geo : Geo) (segment : ℕ) → Represents geo segment (zeros geo segment) one_tier
-zeros_tell geo segment = record {
+zeros_represent : (geo : Geo) (segment : ℕ) → Represents geo segment (zeros geo segment) one_tier
+zeros_represent geo segment = record {
   is_state = one_is geo segment;
   whole = rw (alone geo segment) refl;
   chain = rw (alone geo segment) refl;
@@ -116,7 +116,7 @@ zeros_stand geo segment = record {
   fourth = all_zero (words_in_segment geo) 3;
   heads = All-from_recursion (EndsHead geo (zeros geo segment)) (0 ∷ [])
       (record { third = all_zero (words_in_segment geo) (tier_at geo 0 + 2); fourth = all_zero (words_in_segment geo) (tier_at geo 0 + 3) }, tt);
-  tells = zeros_tell geo segment;
+  represents = zeros_represent geo segment;
 }
 
 -- a first number that passes is found
@@ -135,7 +135,7 @@ first_room geo chunks within_limit =
 put_plans : (geo : Geo) (key value : List ℕ) → Fits geo (length key) (length value)
     → Plans geo (segment_of_key geo key) one_tier (Put key value) (planned_change geo one_tier (Put key value) key)
 put_plans geo key value fits =
-    let fit = first_room geo (need geo (length key) (length value)) fits.few_chunks in
+    let fit = first_room geo (need geo (length key) (length value)) fits.run_short in
     let spot : Spot = record { place = 0; chunk = 0 } in
     let segment = segment_of_key geo key in
     record {
@@ -152,7 +152,7 @@ abbrev first_put : Geo → List ℕ → List ℕ → Change
 first_put geo key value = placing_change geo (Put key value) key value None (Elsewhere (record { place = 0; chunk = 0 })) (need geo (length key) (length value))
 
 first_is : (geo : Geo) (key value : List ℕ) → Fits geo (length key) (length value) → planned_change geo one_tier (Put key value) key ≡ first_put geo key value
-first_is geo key value fits = let fit = first_room geo (need geo (length key) (length value)) fits.few_chunks in rw fit refl
+first_is geo key value fits = let fit = first_room geo (need geo (length key) (length value)) fits.run_short in rw fit refl
 
 first_torn : (geo : Geo) (words key value : List ℕ) → IsFirstWritten geo words key value → Torn geo words one_tier (first_put geo key value)
 first_torn geo words key value is =
@@ -161,8 +161,8 @@ first_torn geo words key value is =
       others_stand = λ placed other. absurd (none_in other.there);
       others_pointed = λ placed other. absurd (none_in other.there);
       slots = λ place number slot chained inside e. inr (its place number slot (rw linked_is at chained) inside e);
-      old_whole = λ placed old. absurd (none_in old.there);
-      new_whole = λ placed new apart points. whole_at placed (in_from (entry_at key value 0 0 ∷ []) placed new.there) points.pointed;
+      old_stands = λ placed old. absurd (none_in old.there);
+      new_stands = λ placed new apart points. whole_at placed (in_from (entry_at key value 0 0 ∷ []) placed new.there) points.pointed;
       pointed = λ old new is_old. absurd (none_in is_old.there);
       whole = rw linked_is refl;
       chain = inl (rw linked_is refl);

@@ -11,7 +11,7 @@ use Rattle.cm_plain.specs.Changes.{entry_at}
 use Rattle.cm_plain.specs.Readings.{Reading, entry, reading_at, wrong_checksum, wrong_padding, wrong_lengths}
 use Rattle.cm_recover.specs.declared.cause.Cause.{Cause}
 use Rattle.cm_recover.specs.declared.cause.Cause.TheVariants as cause
-use Rattle.cm_recover.specs.Occupied.{OccupiedSlot}
+use Rattle.cm_recover.specs.OccupiedSlots.{OccupiedSlot}
 
 -- what becomes of a slot
 pub data Judgement : Type 0 where

@@ -7,8 +7,8 @@ use Rattle.cm_plain.specs.States.{State}
 use Rattle.cm_plain.specs.Changes.{with_entry}
 use Rattle.cm_recover.specs.declared.cause.Cause.{Cause}
 use Rattle.cm_recover.specs.declared.cause.Cause.TheVariants as cause
-use Rattle.cm_recover.specs.Occupied.{OccupiedSlot, occupied_slots}
-use Rattle.cm_recover.specs.Allowed.{allowed_places}
+use Rattle.cm_recover.specs.OccupiedSlots.{OccupiedSlot, occupied_slots}
+use Rattle.cm_recover.specs.AllowedPlaces.{allowed_places}
 use Rattle.cm_recover.specs.Judgements.{Judgement, is_dropped, is_kept, judgement}
 
 -- of some slots: the entries that are kept, in the order of their runs, and for what the others are dropped

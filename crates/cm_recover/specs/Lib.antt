@@ -1,6 +1,6 @@
 -- The definitions that contracts cite.
-pub mod Occupied
-pub mod Allowed
+pub mod OccupiedSlots
+pub mod AllowedPlaces
 pub mod Judgements
 pub mod KeptSlots
 pub mod Recovered

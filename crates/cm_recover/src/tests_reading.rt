@@ -310,9 +310,9 @@ impl Segment {
             .new
             .is_some_and(|entry| self.points_in(chain, &entry));
         let stays = change.old.is_some() && change.new.is_some();
-        let old_whole = change.old.is_some_and(|entry| self.reads(&entry));
-        let new_whole = change.new.is_some_and(|entry| self.reads(&entry));
-        (change.in_place || (!old || old_whole) && (!new || new_whole)) && (!stays || old || new)
+        let old_stands = change.old.is_some_and(|entry| self.reads(&entry));
+        let new_stands = change.new.is_some_and(|entry| self.reads(&entry));
+        (change.in_place || (!old || old_stands) && (!new || new_stands)) && (!stays || old || new)
     }
 
     /// Whether the first word, the key's words and the checksum are such as while a value is replaced in

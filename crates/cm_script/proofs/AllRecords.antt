@@ -1,4 +1,4 @@
--- The records that a reader reached are a front of `records`, and all of them where it is at the end.
+-- The records that a reader reached are a prefix of `records`, and all of them where it is at the end.
 use Rattle.std.specs.Prelude.{Some, None}
 use Rattle.std.proofs.Common.{◌≡◌, ◌<◌, ◌≤◌, [], ◌∷◌, ℕ, List, true, false, length, refl, subst, suc, zero, arith, inl, inr, ◌==◌, ◌++◌}
 use Rattle.std.proofs.lemmas.Bool.{cases_Bool}

@@ -3,6 +3,6 @@ pub mod Decimals
 pub mod AllRecords
 pub mod Exits
 pub mod Lines
-pub mod Mapped
+pub mod MappedErrors
 pub mod RowTexts
-pub mod LimitsKept
+pub mod LineLimits

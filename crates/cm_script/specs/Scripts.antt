@@ -53,33 +53,33 @@ abbrev pub is_large : Geo → List ℕ → List ℕ → Bool
 is_large geo key value = nat_lt MAX_RUN_CHUNKS (need geo (length key) (length value))
 
 -- an operation on a key
-abbrev pub keyed : List ℕ → Op → Result Op LineCause
-keyed key asked = unless (is_empty key) cause.Argument (unless (is_long_key key) cause.TooLarge (Ok asked))
+abbrev pub op_on_key : List ℕ → Op → Result Op LineCause
+op_on_key key asked = unless (is_empty key) cause.Argument (unless (is_long_key key) cause.TooLarge (Ok asked))
 
 -- an operation that writes a value under a key
-abbrev pub written : Geo → List ℕ → List ℕ → Op → Result Op LineCause
-written geo key value asked =
+abbrev pub op_with_value : Geo → List ℕ → List ℕ → Op → Result Op LineCause
+op_with_value geo key value asked =
     unless (is_empty key) cause.Argument (unless (is_long_key key || (is_long_value value || is_large geo key value)) cause.TooLarge (Ok asked))
 
 -- an operation on the segment that a field names
-abbrev pub in_segment : Option ℕ → (ℕ → Op) → Bool → Result Op LineCause
-in_segment None asked is_too_large = Err cause.Argument
-in_segment (Some segment) asked is_too_large = unless is_too_large cause.TooLarge (Ok (asked segment))
+abbrev pub op_on_segment : Option ℕ → (ℕ → Op) → Bool → Result Op LineCause
+op_on_segment None asked is_too_large = Err cause.Argument
+op_on_segment (Some segment) asked is_too_large = unless is_too_large cause.TooLarge (Ok (asked segment))
 
 -- the operation of a word and the fields behind it, where so many `list` records stand before it
 abbrev pub op_of : Geo → ℕ → Verb → List (List ℕ) → Result Op LineCause
-op_of geo lists verb.Put (key ∷ value ∷ []) = written geo key value (op.Put key value)
-op_of geo lists verb.Get (key ∷ []) = keyed key (op.Get key)
-op_of geo lists verb.PutIfAbsent (key ∷ value ∷ []) = written geo key value (op.PutIfAbsent key value)
-op_of geo lists verb.Replace (key ∷ value ∷ []) = written geo key value (op.Replace key value)
+op_of geo lists verb.Put (key ∷ value ∷ []) = op_with_value geo key value (op.Put key value)
+op_of geo lists verb.Get (key ∷ []) = op_on_key key (op.Get key)
+op_of geo lists verb.PutIfAbsent (key ∷ value ∷ []) = op_with_value geo key value (op.PutIfAbsent key value)
+op_of geo lists verb.Replace (key ∷ value ∷ []) = op_with_value geo key value (op.Replace key value)
 op_of geo lists verb.ReplaceIf (key ∷ expected ∷ value ∷ []) =
-    unless (is_empty key) cause.Argument (unless (is_long_value expected) cause.TooLarge (written geo key value (op.ReplaceIf key expected value)))
-op_of geo lists verb.Remove (key ∷ []) = keyed key (op.Remove key)
+    unless (is_empty key) cause.Argument (unless (is_long_value expected) cause.TooLarge (op_with_value geo key value (op.ReplaceIf key expected value)))
+op_of geo lists verb.Remove (key ∷ []) = op_on_key key (op.Remove key)
 op_of geo lists verb.RemoveIf (key ∷ expected ∷ []) =
-    unless (is_empty key) cause.Argument (unless (is_long_value expected) cause.TooLarge (keyed key (op.RemoveIf key expected)))
-op_of geo lists verb.Count (segment ∷ []) = in_segment (number_below geo.segments segment) (λ number. op.Count number) false
-op_of geo lists verb.List (segment ∷ []) = in_segment (number_below geo.segments segment) (λ number. op.List number) (nat_le MAX_SCRIPT_LISTS lists)
-op_of geo lists verb.Sweep (segment ∷ prefix ∷ []) = in_segment (number_below geo.segments segment) (λ number. op.Sweep number prefix) (is_long_key prefix)
+    unless (is_empty key) cause.Argument (unless (is_long_value expected) cause.TooLarge (op_on_key key (op.RemoveIf key expected)))
+op_of geo lists verb.Count (segment ∷ []) = op_on_segment (number_below geo.segments segment) (λ number. op.Count number) false
+op_of geo lists verb.List (segment ∷ []) = op_on_segment (number_below geo.segments segment) (λ number. op.List number) (nat_le MAX_SCRIPT_LISTS lists)
+op_of geo lists verb.Sweep (segment ∷ prefix ∷ []) = op_on_segment (number_below geo.segments segment) (λ number. op.Sweep number prefix) (is_long_key prefix)
 op_of geo lists _ _ = Err cause.Argument
 
 abbrev pub line_by : ℕ → Result Op LineCause → Result Line LineCause
@@ -107,9 +107,9 @@ is_built_op _ = false
 abbrev pub is_built : Line → Bool
 is_built line = line.caller == 0 && is_built_op line.op
 
-abbrev pub built : Result Line LineCause → Result Line LineCause
-built (Ok line) = if is_built line then Ok line else Err cause.NotYet
-built (Err why) = Err why
+abbrev pub built_line : Result Line LineCause → Result Line LineCause
+built_line (Ok line) = if is_built line then Ok line else Err cause.NotYet
+built_line (Err why) = Err why
 
 abbrev pub is_list : Op → Bool
 is_list (op.List segment) = true
@@ -138,7 +138,7 @@ line_then number (Err why) later = Err (refused number why)
 abbrev pub lines_from : Geo → ℕ → ℕ → List (List (List ℕ)) → Result (List Line) Refusal
 lines_from geo number lists [] = Ok []
 lines_from geo number lists (row ∷ rows) =
-    let line = built (line_of geo lists row) in
+    let line = built_line (line_of geo lists row) in
     line_then number line (lines_from geo (number + 1) (lists_with lists line) rows)
 
 -- the script of a text: its length and its number of records are tested before any record
@@ -155,7 +155,7 @@ StopsScript geo bytes stop.NoMemory = Unit {0}
 
 -- a line that was read for a geometry: its operation is built, its caller is one, and it keeps the limits
 pub record IsLineFor (geo : Geo) (line : Line) : Type 0 where
-  pub is_done : is_built line ≡ true
+  pub is_built_line : is_built line ≡ true
   pub caller : line.caller < MAX_CALLERS
   pub limits : KeepsLimits geo line.op
 

@@ -4,7 +4,7 @@ ghost use Rattle.std.specs.Prelude.{◌≡◌, ◌||◌, ℕ, IfErr, IfOk, OnOk,
 ghost use Rattle.cm_plain.specs.declared.op.Op.{Op};
 ghost use Rattle.cm_script.specs.Numbers.{number_below};
 ghost use Rattle.cm_script.specs.declared.stop.LineCause.{LineCause};
-ghost use Rattle.cm_script.specs.Scripts.{in_segment, is_empty, is_large, is_long_key, is_long_value, keyed, op_of, unless, written};
+ghost use Rattle.cm_script.specs.Scripts.{op_on_segment, is_empty, is_large, is_long_key, is_long_value, op_on_key, op_of, unless, op_with_value};
 
 use crate::limits::MAX_SCRIPT_LISTS;
 use crate::number::number_below;
@@ -60,8 +60,8 @@ fn check_key(key: &[u8], is_too_large: bool) -> Result<(), LineStop>
 // A copy of a key.
 fn key_of(alloc: Global, key: &[u8]) -> Result<Bytes, LineStop>
     ensures copy { IfOk result (λ copy. copy ≡ key.now) }
-    ensures ok { IfOk result (λ copy. (asked : Op) → keyed key.now asked ≡ Ok asked) }
-    ensures err { IfErr result (λ stop. (cause : LineCause) → stop ≡ LineStop.Refused cause → (asked : Op) → keyed key.now asked ≡ Err cause) }
+    ensures ok { IfOk result (λ copy. (asked : Op) → op_on_key key.now asked ≡ Ok asked) }
+    ensures err { IfErr result (λ stop. (cause : LineCause) → stop ≡ LineStop.Refused cause → (asked : Op) → op_on_key key.now asked ≡ Err cause) }
 {
     check_key(key, key.len() > LONGEST_KEY)?;
     Ok(Bytes::of(alloc, key)?)
@@ -70,8 +70,8 @@ fn key_of(alloc: Global, key: &[u8]) -> Result<Bytes, LineStop>
 // Copies of a key and of a value that is written under it.
 fn entry_of(alloc: Global, geo: &Geo, key: &[u8], value: &[u8]) -> Result<(Bytes, Bytes), LineStop>
     ensures copy { IfOk result (λ copies. (copies.0 ≡ key.now) × (copies.1 ≡ value.now)) }
-    ensures ok { IfOk result (λ copies. (asked : Op) → written geo.now key.now value.now asked ≡ Ok asked) }
-    ensures err { IfErr result (λ stop. (cause : LineCause) → stop ≡ LineStop.Refused cause → (asked : Op) → written geo.now key.now value.now asked ≡ Err cause) }
+    ensures ok { IfOk result (λ copies. (asked : Op) → op_with_value geo.now key.now value.now asked ≡ Ok asked) }
+    ensures err { IfErr result (λ stop. (cause : LineCause) → stop ≡ LineStop.Refused cause → (asked : Op) → op_with_value geo.now key.now value.now asked ≡ Err cause) }
 {
     check_key(key, is_too_large(geo, key, value))?;
     Ok((Bytes::of(alloc, key)?, Bytes::of(alloc, value)?))
@@ -89,8 +89,8 @@ fn expected_of(alloc: Global, key: &[u8], expected: &[u8]) -> Result<Bytes, Line
 
 // The segment that a field names, unless something else is too large.
 fn segment_of(geo: &Geo, text: &[u8], is_too_large: bool) -> Result<u32, LineStop>
-    ensures ok { IfOk result (λ segment. (asked : ℕ → Op) → in_segment (number_below geo.now.segments text.now) asked is_too_large ≡ Ok (asked segment)) }
-    ensures err { IfErr result (λ stop. (cause : LineCause) → stop ≡ LineStop.Refused cause → (asked : ℕ → Op) → in_segment (number_below geo.now.segments text.now) asked is_too_large ≡ Err cause) }
+    ensures ok { IfOk result (λ segment. (asked : ℕ → Op) → op_on_segment (number_below geo.now.segments text.now) asked is_too_large ≡ Ok (asked segment)) }
+    ensures err { IfErr result (λ stop. (cause : LineCause) → stop ≡ LineStop.Refused cause → (asked : ℕ → Op) → op_on_segment (number_below geo.now.segments text.now) asked is_too_large ≡ Err cause) }
 {
     match number_below(geo.segments, text) {
         None => Err(LineStop::Refused(LineCause::Argument)),

@@ -2,7 +2,7 @@
 
 ghost use Rattle.std.specs.Prelude.{◌≡◌, ◌≢◌, ◌≤◌, ℕ, length, map, vec_len, IfErr, IfOk};
 ghost use Rattle.csv.specs.Records.{fields_of};
-ghost use Rattle.cm_script.specs.Scripts.{built, is_built, line_of, lines_from, lists_with, refused, script_of, StopsScript, IsFor};
+ghost use Rattle.cm_script.specs.Scripts.{built_line, is_built, line_of, lines_from, lists_with, refused, script_of, StopsScript, IsFor};
 ghost use Rattle.cm_script.specs.declared.stop.LineCause.{LineCause};
 
 use crate::arguments::{LineStop, op_of};
@@ -73,8 +73,8 @@ fn is_built(line: &Line) -> bool
 
 // The same of a record that asks for what is built.
 fn built_line_of(alloc: Global, geo: &Geo, lists: u32, row: &ByteRecord) -> Result<Line, LineStop>
-    ensures ok { IfOk result (λ line. built (line_of geo.now lists (fields_of row.now)) ≡ Ok line) }
-    ensures err { IfErr result (λ stop. (cause : LineCause) → stop ≡ LineStop.Refused cause → built (line_of geo.now lists (fields_of row.now)) ≡ Err cause) }
+    ensures ok { IfOk result (λ line. built_line (line_of geo.now lists (fields_of row.now)) ≡ Ok line) }
+    ensures err { IfErr result (λ stop. (cause : LineCause) → stop ≡ LineStop.Refused cause → built_line (line_of geo.now lists (fields_of row.now)) ≡ Err cause) }
 {
     let line = line_of(alloc, geo, lists, row)?;
     if !is_built(&line) {

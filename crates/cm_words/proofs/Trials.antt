@@ -14,7 +14,7 @@ use Rattle.cm_plain.specs.declared.placed.Placed.{Placed}
 use Rattle.cm_plain.specs.FoundChains.{FoundChain, chain_of, chain_from}
 use Rattle.cm_plain.specs.Lawful.{Resting}
 use Rattle.cm_geo.proofs.AddressOrder.{tier_behind_head, tier_head_in_range}
-use Rattle.cm_plain.proofs.Placing.{placed_state}
+use Rattle.cm_plain.proofs.Placements.{placed_state}
 use Rattle.cm_plain.proofs.OutsideHead.{resting_represents, torn_same}
 use Rattle.cm_words.specs.Memory.{FitsNotes, HasEvenNumber, IsAllowed, IsDone, IsPlanHere, MemSeen, Setting, StaysTorn, origin}
 use Rattle.cm_geo.specs.Addresses.{words_in_map, words_in_segment}
@@ -76,7 +76,7 @@ plans_first_put geo is state =
     let need_is : need geo 1 1 ≡ 1 = rw is.chunk_words_is refl in
     let fit_is : first_fit geo one_tier 1 ≡ Some (record { place = 0; chunk = 0 }) = rw is.chunks_is refl in
     let room_is : room_for geo one_tier first_put.key (need geo 1 1) ≡ Elsewhere (record { place = 0; chunk = 0 }) = rw (need_is, fit_is) refl in
-    let fits : Fits geo 1 1 = record { key_some = omega arith; key_short = omega arith; value_short = omega arith; few_chunks = rw need_is (omega arith) } in
+    let fits : Fits geo 1 1 = record { key_nonempty = omega arith; key_short = omega arith; value_short = omega arith; run_short = rw need_is (omega arith) } in
     let here : segment_of_key geo first_put.key ≡ 0 = rw is.segments_is (mod_one (hash first_put.key)) in
     record {
       is_state = state;

@@ -12,7 +12,7 @@ pub perform-requires-clause-first : goal.perform-requires-clause-first
 perform-requires-clause-first c = c.loop-at.invariant.calls.history.segment_is
 
 pub perform-requires-clause-built : goal.perform-requires-clause-built
-perform-requires-clause-built c = (line_for c.args.geo.now c.args.script.now c.loop-at.at c.line.result.now c.requires.kept c.line.ensures).is_done
+perform-requires-clause-built c = (line_for c.args.geo.now c.args.script.now c.loop-at.at c.line.result.now c.requires.kept c.line.ensures).is_built_line
 
 pub perform-requires-clause-limits : goal.perform-requires-clause-limits
 perform-requires-clause-limits c =
@@ -20,7 +20,7 @@ perform-requires-clause-limits c =
 
 pub loop-at-preserved : goal.loop-at-preserved
 loop-at-preserved c =
-    let built = (line_for c.args.geo.now c.args.script.now c.loop-at.at c.line.result.now c.requires.kept c.line.ensures).is_done in
+    let built = (line_for c.args.geo.now c.args.script.now c.loop-at.at c.line.result.now c.requires.kept c.line.ensures).is_built_line in
     rw c.in_ok-push.ensures.items (ran_more c.args.geo.now c.args.script.now c.loop-at.at c.loop-at.receipts.items c.line.result.now c.loop-at.segment c.perform.new.segment
     c.in_ok-receipt.receipt c.requires.one_segment built c.line.ensures c.loop-at.invariant c.in_ok-receipt.ensures)
 

@@ -6,7 +6,7 @@ use Rattle.std.proofs.lemmas.List.Sums.{length-filter}
 use Rattle.std.proofs.lemmas.List.Elements.{recursion_from_All}
 use Rattle.cm_plain.proofs.Each.{pairs_from_all}
 use Rattle.std.specs.List.{insert}
-use Rattle.cm_plain.proofs.Splits.{cut_at}
+use Rattle.cm_plain.proofs.ListCuts.{cut_at}
 use Rattle.cm_plain.proofs.entries.insert_entry.Goals as goal
 
 pub returns : goal.returns

@@ -6,7 +6,7 @@ use Rattle.std.proofs.lemmas.Iterator.{YieldsList-from_slice, YieldsList-from_ma
 use Rattle.std.proofs.lemmas.Iterator.Consumers.{YieldsList-at, YieldsList-from_filter, reduce_by_from_yields_List}
 use Rattle.cm_plain.specs.declared.placed.Placed.{Placed}
 use Rattle.cm_plain.specs.Steps.{has_prefix}
-use Rattle.cm_plain.proofs.Least.{least_key_is, lesser, lesser_behind}
+use Rattle.cm_plain.proofs.LeastKey.{least_key_is, lesser, lesser_behind}
 use Rattle.cm_plain.proofs.reads.least_key.Goals as goal
 
 pub returns : goal.returns

@@ -1,6 +1,6 @@
 use Rattle.std.proofs.Common.{map}
 use Rattle.csv.specs.Records.{fields_of}
-use Rattle.cm_script.proofs.LimitsKept.{lines_kept}
+use Rattle.cm_script.proofs.LineLimits.{lines_kept}
 use Rattle.cm_script.proofs.read.read_script.Goals as goal
 
 pub returns-clause-kept : goal.returns-clause-kept

@@ -2,7 +2,7 @@
 use Rattle.std.proofs.Common.{◌∙◌, map}
 use Rattle.std.proofs.lemmas.Result.{IfOk-weaker}
 use Rattle.cm_script.specs.Reports.{call_fields, end_fields, map_fields}
-use Rattle.cm_script.proofs.Mapped.{IfOk-map_err}
+use Rattle.cm_script.proofs.MappedErrors.{IfOk-map_err}
 use Rattle.cm_script.proofs.RowTexts.{text_of_rows-parts}
 use Rattle.cm_script.proofs.text.render.Goals as goal
 

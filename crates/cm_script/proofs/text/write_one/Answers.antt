@@ -1,6 +1,6 @@
 -- What csv writes for the row of a flexible writer is what the default writer writes for the fields.
 use Rattle.std.proofs.lemmas.Result.{on_ok_weaker}
-use Rattle.cm_script.proofs.Mapped.{IfOk-map_err}
+use Rattle.cm_script.proofs.MappedErrors.{IfOk-map_err}
 use Rattle.cm_script.proofs.RowTexts.{row_text-flexible}
 use Rattle.cm_script.proofs.text.write_one.Goals as goal
 

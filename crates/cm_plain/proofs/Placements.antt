@@ -26,7 +26,7 @@ use Rattle.cm_plain.proofs.States.{Differs, each_differs, each_placed, each_risi
 use Rattle.cm_plain.proofs.Chains.{IsOutside, chain_with, each_other, lowest_outside}
 
 -- an entry may stand in a chain, beside all entries but its key's
-pub record Goes (geo : Geo) (entries : List Placed) (chain : List ℕ) (entry : Placed) : Type 0 where
+pub record MayStand (geo : Geo) (entries : List Placed) (chain : List ℕ) (entry : Placed) : Type 0 where
   pub chain_is : IsChain geo chain
   pub inside : entry.chunk + chunks_of geo entry ≤ geo.chunks
   pub chained : Contains chain entry.place
@@ -72,7 +72,7 @@ apart_without geo entry key entries h = each_filter (λ other. IsApart geo other
 
 -- an entry goes to a chunk where the room is apart from the old place
 at_fit : (geo : Geo) (segment : ℕ) (state : State) (key value : List ℕ) (spot : Spot) → IsState geo segment state
-    → first_fit geo state (need geo (length key) (length value)) ≡ Some spot → Goes geo (without key state.entries) state.chain (entry_at key value spot.place spot.chunk)
+    → first_fit geo state (need geo (length key) (length value)) ≡ Some spot → MayStand geo (without key state.entries) state.chain (entry_at key value spot.place spot.chunk)
 at_fit geo segment state key value spot is e =
     let fit = fit_is geo state.entries (need geo (length key) (length value)) state.chain spot e in
     let entry : Placed = entry_at key value spot.place spot.chunk in
@@ -89,10 +89,10 @@ differs_from place chain others at c = All-contains (λ linked. linked ≢ place
 
 -- the first chunk of a tier that is linked by it
 at_new_tier : (geo : Geo) (segment : ℕ) (state : State) (key value : List ℕ) (place : ℕ) → IsState geo segment state → Fits geo (length key) (length value)
-    → length state.chain < geo.tiers → IsOutside geo state.chain place → Goes geo (without key state.entries) (state.chain ++ place ∷ []) (entry_at key value place 0)
+    → length state.chain < geo.tiers → IsOutside geo state.chain place → MayStand geo (without key state.entries) (state.chain ++ place ∷ []) (entry_at key value place 0)
 at_new_tier geo segment state key value place is fits short outside =
     let entry : Placed = entry_at key value place 0 in
-    let inside : entry.chunk + chunks_of geo entry ≤ geo.chunks = omega (arith, fits.few_chunks, chunks_range geo) in
+    let inside : entry.chunk + chunks_of geo entry ≤ geo.chunks = omega (arith, fits.run_short, chunks_range geo) in
     record {
       chain_is = chain_with geo state.chain place is.chain short outside;
       inside = inside;
@@ -124,7 +124,7 @@ others_than_free geo old entry key entries place chunk length_is inside runs alo
 
 -- where the old value stands
 at_old : (geo : Geo) (segment : ℕ) (state : State) (key value : List ℕ) (old : Placed) → IsState geo segment state → entry_of key state ≡ Some old
-    → can_stay geo state.entries old (need geo (length key) (length value)) ≡ true → Goes geo (without key state.entries) state.chain (entry_at key value old.place old.chunk)
+    → can_stay geo state.entries old (need geo (length key) (length value)) ≡ true → MayStand geo (without key state.entries) state.chain (entry_at key value old.place old.chunk)
 at_old geo segment state key value old is e stay =
     let entry : Placed = entry_at key value old.place old.chunk in
     let here : IsPlaced geo segment state.chain old = found_has (IsPlaced geo segment state.chain) (is_at key) state.entries old (each_placed is) e in
@@ -154,50 +154,50 @@ at_old geo segment state key value old is e stay =
     ends_at chunk short long most h k = omega arith
 
 -- a value goes where its room is
-record GoesTo (geo : Geo) (state : State) (key value : List ℕ) (room : Room) (spot : Spot) : Type 0 where
-  goes : Goes geo (without key state.entries) (chain_for room state.chain) (entry_at key value spot.place spot.chunk)
+record MayStandIn (geo : Geo) (state : State) (key value : List ℕ) (room : Room) (spot : Spot) : Type 0 where
+  goes : MayStand geo (without key state.entries) (chain_for room state.chain) (entry_at key value spot.place spot.chunk)
 
 -- the same at an equal spot
 as_spot : (geo : Geo) (state : State) (key value : List ℕ) (room : Room) (here spot : Spot) → here ≡ spot
-    → Goes geo (without key state.entries) (chain_for room state.chain) (entry_at key value here.place here.chunk) → GoesTo geo state key value room spot
-as_spot geo state key value room here spot same goes = subst (GoesTo geo state key value room) same (record { goes = goes })
+    → MayStand geo (without key state.entries) (chain_for room state.chain) (entry_at key value here.place here.chunk) → MayStandIn geo state key value room spot
+as_spot geo state key value room here spot same goes = subst (MayStandIn geo state key value room) same (record { goes = goes })
 
 -- a value goes to a room apart from its old place
-goes_apart : (geo : Geo) (segment : ℕ) (state : State) (key value : List ℕ) (old : Option Placed) (spot : Spot) → IsState geo segment state → Fits geo (length key) (length value)
+may_stand_apart : (geo : Geo) (segment : ℕ) (state : State) (key value : List ℕ) (old : Option Placed) (spot : Spot) → IsState geo segment state → Fits geo (length key) (length value)
     → (fit : Option Spot) → first_fit geo state (need geo (length key) (length value)) ≡ fit → spot_in (room_apart geo state.chain fit) old ≡ Some spot
-    → GoesTo geo state key value (room_apart geo state.chain fit) spot
-goes_apart geo segment state key value old spot is fits (Some fit) e at =
+    → MayStandIn geo state key value (room_apart geo state.chain fit) spot
+may_stand_apart geo segment state key value old spot is fits (Some fit) e at =
     as_spot geo state key value (Elsewhere fit) fit spot (same_Some fit spot at) (at_fit geo segment state key value fit is e)
-goes_apart geo segment state key value old spot is fits None e at = elim (cases_Bool (nat_lt (length state.chain) geo.tiers)) [
+may_stand_apart geo segment state key value old spot is fits None e at = elim (cases_Bool (nat_lt (length state.chain) geo.tiers)) [
   | inl short ↦
       let place = lowest_unlinked geo state.chain in
       let here : Spot = record { place = place; chunk = 0 } in
       let room : room_apart geo state.chain None ≡ NewTier place = rw short refl in
       let at' : Some here ≡ Some spot = rw short at at in
       let shorter : length state.chain < geo.tiers = grind (arith, nat_tests) in
-      subst (λ (it : Room). GoesTo geo state key value it spot) (sym room)
+      subst (λ (it : Room). MayStandIn geo state key value it spot) (sym room)
       (as_spot geo state key value (NewTier place) here spot (same_Some here spot at') (at_new_tier geo segment state key value place is fits shorter (lowest_outside geo state.chain shorter)))
   | inr long ↦ let at' : None ≡ Some spot = rw long at at in cc at'
 ]
 
 -- a value goes to its room, beside its old place
-goes_beside : (geo : Geo) (segment : ℕ) (state : State) (key value : List ℕ) (spot : Spot) → IsState geo segment state → Fits geo (length key) (length value)
+may_stand_beside : (geo : Geo) (segment : ℕ) (state : State) (key value : List ℕ) (spot : Spot) → IsState geo segment state → Fits geo (length key) (length value)
     → (old : Option Placed) → entry_of key state ≡ old → spot_in (room_beside geo state old (need geo (length key) (length value))) old ≡ Some spot
-    → GoesTo geo state key value (room_beside geo state old (need geo (length key) (length value))) spot
-goes_beside geo segment state key value spot is fits None e at =
-    goes_apart geo segment state key value None spot is fits (first_fit geo state (need geo (length key) (length value))) refl at
-goes_beside geo segment state key value spot is fits (Some old) e at = elim (cases_Bool (can_stay geo state.entries old (need geo (length key) (length value)))) [
+    → MayStandIn geo state key value (room_beside geo state old (need geo (length key) (length value))) spot
+may_stand_beside geo segment state key value spot is fits None e at =
+    may_stand_apart geo segment state key value None spot is fits (first_fit geo state (need geo (length key) (length value))) refl at
+may_stand_beside geo segment state key value spot is fits (Some old) e at = elim (cases_Bool (can_stay geo state.entries old (need geo (length key) (length value)))) [
   | inl stays ↦
       let here : Spot = record { place = old.place; chunk = old.chunk } in
       let room : room_beside geo state (Some old) (need geo (length key) (length value)) ≡ InPlace = rw stays refl in
       let at' : Some here ≡ Some spot = rw stays at at in
-      subst (λ (it : Room). GoesTo geo state key value it spot) (sym room)
+      subst (λ (it : Room). MayStandIn geo state key value it spot) (sym room)
       (as_spot geo state key value InPlace here spot (same_Some here spot at') (at_old geo segment state key value old is e stays))
   | inr leaves ↦
       let fit = first_fit geo state (need geo (length key) (length value)) in
       let room : room_beside geo state (Some old) (need geo (length key) (length value)) ≡ room_apart geo state.chain fit = rw leaves refl in
       let at' : spot_in (room_apart geo state.chain fit) (Some old) ≡ Some spot = rw leaves at at in
-      subst (λ (it : Room). GoesTo geo state key value it spot) (sym room) (goes_apart geo segment state key value (Some old) spot is fits fit refl at')
+      subst (λ (it : Room). MayStandIn geo state key value it spot) (sym room) (may_stand_apart geo segment state key value (Some old) spot is fits fit refl at')
 ]
 
 -- the others have other keys
@@ -232,12 +232,12 @@ in_longer (Elsewhere spot) chain at c = c
 in_longer Nowhere chain at c = c
 
 -- how an entry goes to its room
-pub goes_in : (geo : Geo) (segment : ℕ) (state : State) (key value : List ℕ) (spot : Spot) → IsState geo segment state → Fits geo (length key) (length value)
+pub may_stand_in : (geo : Geo) (segment : ℕ) (state : State) (key value : List ℕ) (spot : Spot) → IsState geo segment state → Fits geo (length key) (length value)
     → (room : Room) → room_for geo state key (need geo (length key) (length value)) ≡ room → spot_in room (entry_of key state) ≡ Some spot
-    → Goes geo (without key state.entries) (chain_for room state.chain) (entry_at key value spot.place spot.chunk)
-goes_in geo segment state key value spot is fits room room_is at =
+    → MayStand geo (without key state.entries) (chain_for room state.chain) (entry_at key value spot.place spot.chunk)
+may_stand_in geo segment state key value spot is fits room room_is at =
     let at' : spot_in (room_for geo state key (need geo (length key) (length value))) (entry_of key state) ≡ Some spot = rw room_is at in
-    (subst (λ (it : Room). GoesTo geo state key value it spot) room_is (goes_beside geo segment state key value spot is fits (entry_of key state) refl at')).goes
+    (subst (λ (it : Room). MayStandIn geo state key value it spot) room_is (may_stand_beside geo segment state key value spot is fits (entry_of key state) refl at')).goes
 
 -- so its run begins where no other does
 pub starts_apart : (geo : Geo) (segment : ℕ) (state : State) (key value : List ℕ) (spot : Spot) → IsState geo segment state → Fits geo (length key) (length value)
@@ -245,7 +245,7 @@ pub starts_apart : (geo : Geo) (segment : ℕ) (state : State) (key value : List
     → All (λ other. run_start geo other ≢ run_start geo (entry_at key value spot.place spot.chunk)) (without key state.entries)
 starts_apart geo segment state key value spot is fits room room_is at =
     let entry : Placed = entry_at key value spot.place spot.chunk in
-    let goes = goes_in geo segment state key value spot is fits room room_is at in
+    let goes = may_stand_in geo segment state key value spot is fits room room_is at in
     All-from_recursion (λ other. run_start geo other ≢ run_start geo entry) (without key state.entries)
     (each_weaker (λ other. IsApart geo other entry) (λ other. run_start geo other ≢ run_start geo entry)
     (λ other h. apart_starts geo entry other h) (without key state.entries) goes.apart)
@@ -274,7 +274,7 @@ placed_state geo segment state key value spot is fits here room room_is at =
     let entry : Placed = entry_at key value spot.place spot.chunk in
     let others = without key state.entries in
     let chain = chain_for room state.chain in
-    let goes = goes_in geo segment state key value spot is fits room room_is at in
+    let goes = may_stand_in geo segment state key value spot is fits room room_is at in
     let kept : AllByRecursion (IsPlaced geo segment chain) others = each_kept (IsPlaced geo segment state.chain) (IsPlaced geo segment chain) (λ other. not (is_at key other))
     (λ other h e. record { here = h.here; chained = in_longer room state.chain other.place h.chained; run = h.run }) state.entries (each_placed is) in
     let one : IsPlaced geo segment chain entry = record { here = here; chained = goes.chained; run = record { fits = fits; inside = goes.inside } } in
@@ -286,9 +286,9 @@ placed_state geo segment state key value spot is fits here room room_is at =
     }
 
 -- the state without a key's entry is a state
-pub taken_state : (geo : Geo) (segment : ℕ) (state : State) (key : List ℕ) → IsState geo segment state
+pub removed_state : (geo : Geo) (segment : ℕ) (state : State) (key : List ℕ) → IsState geo segment state
     → IsState geo segment (record { chain = state.chain; entries = without key state.entries })
-taken_state geo segment state key is =
+removed_state geo segment state key is =
     let others = without key state.entries in
     record {
       chain = is.chain;

@@ -7,7 +7,7 @@ use Rattle.std.proofs.lemmas.Cmp.{nat_list_cmp_total}
 use Rattle.std.proofs.lemmas.List.Sorted.{ranks_by}
 use Rattle.std.proofs.lemmas.Fn.{always_returns_same}
 use Rattle.cm_plain.specs.declared.reply.Pair.{Pair}
-use Rattle.cm_plain.proofs.reads.listed.Goals as goal
+use Rattle.cm_plain.proofs.reads.sorted_pairs.Goals as goal
 
 pub returns : goal.returns
 returns c =

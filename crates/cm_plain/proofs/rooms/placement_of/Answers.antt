@@ -3,8 +3,8 @@ use Rattle.std.proofs.Common.{◌∙◌, sym}
 use Rattle.std.proofs.lemmas.List.Elements.{recursion_from_All}
 use Rattle.cm_plain.specs.States.{HasRun}
 use Rattle.cm_plain.proofs.Each.{found_has}
-use Rattle.cm_plain.proofs.Placing.{is_at}
-use Rattle.cm_plain.proofs.rooms.placing_of.Goals as goal
+use Rattle.cm_plain.proofs.Placements.{is_at}
+use Rattle.cm_plain.proofs.rooms.placement_of.Goals as goal
 
 pub room-room-requires-clause-old_run : goal.room-room-requires-clause-old_run
 room-room-requires-clause-old_run c = λ x e.

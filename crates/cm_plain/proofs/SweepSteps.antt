@@ -9,7 +9,7 @@ use Rattle.cm_plain.specs.declared.placed.Placed.{Placed}
 use Rattle.cm_plain.specs.declared.reply.Reply.TheVariants as reply
 use Rattle.cm_plain.specs.States.{entry_among}
 use Rattle.cm_plain.specs.Steps.{Decision, StepAs, decision, has_prefix, no_change}
-use Rattle.cm_plain.specs.Segments.{Answered, IsLeastKey, Segment, Sweeps, SweepsLeast, Takes, reply_to_taking}
+use Rattle.cm_plain.specs.Segments.{AnswersOp, IsLeastKey, Segment, AnswersSweeps, SweepsLeast, RemovesKey, removal_reply}
 use Rattle.cm_plain.proofs.Keys.{key_tells}
 
 -- whether a key has the prefix
@@ -33,7 +33,7 @@ found_any prefix key (entry ∷ entries) passes there = elim (cases_Bool (has_pr
 ]
 
 -- no key has the prefix
-pub sweeps_none : (seen : Segment) (prefix : List ℕ) → All (λ entry. has_prefix prefix entry.key ≡ false) seen.state.entries → Sweeps seen seen prefix reply.SweptAll
+pub sweeps_none : (seen : Segment) (prefix : List ℕ) → All (λ entry. has_prefix prefix entry.key ≡ false) seen.state.entries → AnswersSweeps seen seen prefix reply.SweptAll
 sweeps_none seen prefix none = record {
   answers = λ segment grant.
       let unmet = none_any prefix seen.state.entries (recursion_from_All (λ (entry : Placed). has_prefix prefix entry.key ≡ false) seen.state.entries none) in
@@ -48,15 +48,15 @@ sweeps_none seen prefix none = record {
 }
 
 -- the least key with the prefix was taken away, or no number was left
-pub sweeps_one : (old new : Segment) (prefix key : List ℕ) (taken : Bool) → IsLeastKey prefix old.state.entries key → Takes old new key taken
-    → Sweeps old new prefix (if taken then reply.Swept key else reply.Worn)
+pub sweeps_one : (old new : Segment) (prefix key : List ℕ) (taken : Bool) → IsLeastKey prefix old.state.entries key → RemovesKey old new key taken
+    → AnswersSweeps old new prefix (if taken then reply.Swept key else reply.Worn)
 sweeps_one old new prefix key taken is takes = record {
   answers = λ segment grant.
-      subst (Answered old new grant (Sweep segment prefix)) (replies segment taken)
+      subst (AnswersOp old new grant (Sweep segment prefix)) (replies segment taken)
       (takes.answers (Sweep segment prefix) grant (record { met = found_any prefix key old.state.entries is.prefixed is.there; taken = refl; keyed = (is.prefixed, is.there) }));
   least = λ segment. elim taken as (λ it. SweepsLeast old.state (Sweep segment prefix) (if it then reply.Swept key else reply.Worn)) [ true ↦ is.least | false ↦ tt ];
 }
   where
-    replies : (segment : ℕ) (it : Bool) → reply_to_taking it (Sweep segment prefix) key ≡ (if it then reply.Swept key else reply.Worn)
+    replies : (segment : ℕ) (it : Bool) → removal_reply it (Sweep segment prefix) key ≡ (if it then reply.Swept key else reply.Worn)
     replies segment true = refl
     replies segment false = refl

@@ -16,21 +16,21 @@ use Rattle.cm_plain.proofs.ListElements.{In, in_to}
 use Rattle.cm_plain.proofs.Planned.{new_apart}
 use Rattle.cm_plain.proofs.StatePairs.{apart_in}
 use Rattle.cm_plain.proofs.States.{each_rising}
-use Rattle.cm_recover.specs.Occupied.{OccupiedSlot}
+use Rattle.cm_recover.specs.OccupiedSlots.{OccupiedSlot}
 use Rattle.cm_recover.specs.Judgements.{judgement}
 use Rattle.cm_recover.specs.Outcomes.{IsChangeOutcome}
-use Rattle.cm_recover.proofs.Keeping.{AreAlone, IsJudge}
-use Rattle.cm_recover.proofs.Judging.{by_entry}
+use Rattle.cm_recover.proofs.KeptSlots.{AreAlone, IsJudge}
+use Rattle.cm_recover.proofs.SlotJudgements.{by_entry}
 
 -- an entry of another key than the change's
-pub record IsTheirs (state : State) (change : Change) (placed : Placed) : Type 0 where
+pub record IsOfOtherKey (state : State) (change : Change) (placed : Placed) : Type 0 where
   pub is_in : In placed state.entries
   pub other : placed.key ≢ change.key
 
 -- an entry that may stand for the change's key: its run is apart from those of all other keys, and its value is an outcome
-pub record IsIts (geo : Geo) (state : State) (change : Change) (placed : Placed) : Type 0 where
+pub record IsCandidate (geo : Geo) (state : State) (change : Change) (placed : Placed) : Type 0 where
   pub key_is : placed.key ≡ change.key
-  pub apart : (other : Placed) → IsTheirs state change other → IsApart geo other placed
+  pub apart : (other : Placed) → IsOfOtherKey state change other → IsApart geo other placed
   pub outcome : IsChangeOutcome geo state change (Some placed.value)
 
 -- an entry that may be kept
@@ -38,7 +38,7 @@ pub record MayBeKept (geo : Geo) (segment : ℕ) (words : List ℕ) (state : Sta
   pub here : segment_of_key geo placed.key ≡ segment
   pub chained : In placed.place (chain_of geo words).places
   pub run : HasRun geo placed
-  pub role : IsTheirs state change placed ⊎ IsIts geo state change placed
+  pub role : IsOfOtherKey state change placed ⊎ IsCandidate geo state change placed
 
 -- a slot is of an entry that may be kept
 pub record IsOf (geo : Geo) (segment : ℕ) (words : List ℕ) (state : State) (change : Change) (at : OccupiedSlot) (placed : Placed) : Type 0 where
@@ -51,7 +51,7 @@ pub record IsOf (geo : Geo) (segment : ℕ) (words : List ℕ) (state : State) (
 alone : (geo : Geo) (segment : ℕ) (words : List ℕ) (state : State) (change : Change) → IsState geo segment state → AreAlone geo (MayBeKept geo segment words state change)
 alone geo segment words state change is one other may may' ne = by may.role may'.role
   where
-    by : IsTheirs state change one ⊎ IsIts geo state change one → IsTheirs state change other ⊎ IsIts geo state change other → IsApart geo one other
+    by : IsOfOtherKey state change one ⊎ IsCandidate geo state change one → IsOfOtherKey state change other ⊎ IsCandidate geo state change other → IsApart geo one other
     by (inl their) (inl their') = apart_in geo state.entries one other (each_rising is) their.is_in their'.is_in ne
     by (inl their) (inr its') = its'.apart one their
     by (inr its) (inl their') = apart_symmetric geo other one (its.apart other their')
@@ -72,17 +72,17 @@ pub value_is : (geo : Geo) (segment : ℕ) (state : State) (key : List ℕ) (pla
 value_is geo segment state key placed is i key_is = ap value_in (found_is geo segment state key placed is (in_to state.entries placed i) key_is)
 
 -- the old entry may stand
-pub its_old : (geo : Geo) (segment : ℕ) (state : State) (change : Change) (old : Placed) → IsState geo segment state → In old state.entries → old.key ≡ change.key → IsIts geo state change old
-its_old geo segment state change old is i key_is = record {
+pub old_candidate : (geo : Geo) (segment : ℕ) (state : State) (change : Change) (old : Placed) → IsState geo segment state → In old state.entries → old.key ≡ change.key → IsCandidate geo state change old
+old_candidate geo segment state change old is i key_is = record {
   key_is = key_is;
   apart = λ other their. apart_in geo state.entries other old (each_rising is) their.is_in i (λ same. their.other (same ∙ key_is));
   outcome = inl (inl (value_is geo segment state change.key old is i key_is));
 }
 
 -- and so may the new one
-pub its_new : (geo : Geo) (segment : ℕ) (state : State) (op : Op) (change : Change) (new : Placed) → IsState geo segment state → Plans geo segment state op change
-    → In new (after geo change state).entries → new.key ≡ change.key → IsIts geo state change new
-its_new geo segment state op change new is plans i key_is = record {
+pub new_candidate : (geo : Geo) (segment : ℕ) (state : State) (op : Op) (change : Change) (new : Placed) → IsState geo segment state → Plans geo segment state op change
+    → In new (after geo change state).entries → new.key ≡ change.key → IsCandidate geo state change new
+new_candidate geo segment state op change new is plans i key_is = record {
   key_is = key_is;
   apart = λ other their. new_apart geo segment state op change new other is plans i key_is their.is_in their.other;
   outcome = inl (inr (value_is geo segment (after geo change state) change.key new plans.leads i key_is));

@@ -4,11 +4,11 @@ use Rattle.std.specs.List.{AllByRecursion}
 use Rattle.cm_geo.specs.declared.geo.Geo.{Geo}
 use Rattle.cm_plain.specs.declared.placed.Placed.{Placed}
 use Rattle.cm_plain.proofs.Each.{Pairs, each_both}
-use Rattle.cm_plain.proofs.Placing.{each_with}
-use Rattle.cm_recover.specs.Occupied.{OccupiedSlot}
+use Rattle.cm_plain.proofs.Placements.{each_with}
+use Rattle.cm_recover.specs.OccupiedSlots.{OccupiedSlot}
 use Rattle.cm_recover.specs.Judgements.{Judgement, is_kept}
 use Rattle.cm_recover.specs.KeptSlots.{KeptEntries, kept_with}
-use Rattle.cm_recover.proofs.Keeping.{AreOthers, IsJudge, IsSound, kept_by, more_new, judgement_new}
+use Rattle.cm_recover.proofs.KeptSlots.{AreOthers, IsJudge, IsSound, kept_by, more_new, judgement_new}
 
 -- slots of two entries have two keys
 abbrev pub AreOfKeys : (OccupiedSlot → Placed → Type 0) → OccupiedSlot → OccupiedSlot → Type 0

@@ -20,7 +20,7 @@ use Rattle.cm_script.specs.declared.stop.LineCause.TheVariants as cause
 use Rattle.cm_script.specs.declared.verb.Verb.{Verb}
 use Rattle.cm_script.specs.declared.verb.Verb.TheVariants as verb
 use Rattle.cm_script.specs.Numbers.{number_below}
-use Rattle.cm_script.specs.Scripts.{IsFor, IsLineFor, Refusal, built, in_segment, is_built, is_empty, is_large, is_long_key, is_long_value, keyed, line_by, line_of, line_then, line_with, lines_from, lists_with, op_of, unless, verb_of, written}
+use Rattle.cm_script.specs.Scripts.{IsFor, IsLineFor, Refusal, built_line, op_on_segment, is_built, is_empty, is_large, is_long_key, is_long_value, op_on_key, line_by, line_of, line_then, line_with, lines_from, lists_with, op_of, unless, verb_of, op_with_value}
 
 -- what passes a test that would refuse it
 record Passes (test : Bool) (asked : Op) (result : Result Op LineCause) : Type 0 where
@@ -35,7 +35,7 @@ ok_same : {A E : Type 0} {one other : A} → ◌≡◌ {A = Result A E} (Ok one)
 ok_same e = cc e
 
 -- a key that was accepted
-key_kept : (key : List ℕ) (asked got : Op) → keyed key asked ≡ Ok got → IsKey key × (asked ≡ got)
+key_kept : (key : List ℕ) (asked got : Op) → op_on_key key asked ≡ Ok got → IsKey key × (asked ≡ got)
 key_kept key asked got e =
     let nonempty = passes (is_empty key) cause.Argument (unless (is_long_key key) cause.TooLarge (Ok asked)) got e in
     let short = passes (is_long_key key) cause.TooLarge (Ok asked) got nonempty.is in
@@ -44,17 +44,17 @@ key_kept key asked got e =
     ((one, most), ok_same short.is)
 
 -- a key and a value that were accepted
-entry_kept : (geo : Geo) (key value : List ℕ) (asked got : Op) → written geo key value asked ≡ Ok got → Fits geo (length key) (length value) × (asked ≡ got)
+entry_kept : (geo : Geo) (key value : List ℕ) (asked got : Op) → op_with_value geo key value asked ≡ Ok got → Fits geo (length key) (length value) × (asked ≡ got)
 entry_kept geo key value asked got e =
     let nonempty = passes (is_empty key) cause.Argument (unless (is_long_key key || (is_long_value value || is_large geo key value)) cause.TooLarge (Ok asked)) got e in
     let small = passes (is_long_key key || (is_long_value value || is_large geo key value)) cause.TooLarge (Ok asked) got nonempty.is in
     let keys = or_parts (is_long_key key) (is_long_value value || is_large geo key value) small.clear in
     let values = or_parts (is_long_value value) (is_large geo key value) keys.1 in (
       record {
-        key_some = grind (arith, nat_tests, nonempty.clear);
+        key_nonempty = grind (arith, nat_tests, nonempty.clear);
         key_short = grind (arith, nat_tests, keys.0);
         value_short = grind (arith, nat_tests, values.0);
-        few_chunks = not_over MAX_RUN_CHUNKS (need geo (length key) (length value)) values.1;
+        run_short = not_over MAX_RUN_CHUNKS (need geo (length key) (length value)) values.1;
       },
       ok_same small.is,
     )
@@ -90,7 +90,7 @@ record InSegment (limit : ℕ) (asked : ℕ → Op) (large : Bool) (got : Op) : 
   small : large ≡ false
 
 segment_kept : (limit : ℕ) (text : List ℕ) (asked : ℕ → Op) (large : Bool) (got : Op) (number : Option ℕ) → number_below limit text ≡ number
-    → in_segment number asked large ≡ Ok got → InSegment limit asked large got
+    → op_on_segment number asked large ≡ Ok got → InSegment limit asked large got
 segment_kept limit text asked large got None is e = cc e
 segment_kept limit text asked large got (Some segment) is e =
     let small = passes large cause.TooLarge (Ok (asked segment)) got e in
@@ -100,11 +100,11 @@ as_op : (geo : Geo) (asked got : Op) → asked ≡ got → KeepsLimits geo asked
 as_op geo asked got same h = subst (KeepsLimits geo) same h
 
 -- what a key's limits give
-by_key : (geo : Geo) (key : List ℕ) (asked got : Op) → (IsKey key → KeepsLimits geo asked) → keyed key asked ≡ Ok got → KeepsLimits geo got
+by_key : (geo : Geo) (key : List ℕ) (asked got : Op) → (IsKey key → KeepsLimits geo asked) → op_on_key key asked ≡ Ok got → KeepsLimits geo got
 by_key geo key asked got gives e = let k = key_kept key asked got e in as_op geo asked got k.1 (gives k.0)
 
 -- what an entry's limits give
-by_entry : (geo : Geo) (key value : List ℕ) (asked got : Op) → (Fits geo (length key) (length value) → KeepsLimits geo asked) → written geo key value asked ≡ Ok got → KeepsLimits geo got
+by_entry : (geo : Geo) (key value : List ℕ) (asked got : Op) → (Fits geo (length key) (length value) → KeepsLimits geo asked) → op_with_value geo key value asked ≡ Ok got → KeepsLimits geo got
 by_entry geo key value asked got gives e = let k = entry_kept geo key value asked got e in as_op geo asked got k.1 (gives k.0)
 
 -- an operation that was accepted keeps the limits
@@ -132,7 +132,7 @@ op_kept geo lists verb.ReplaceIf (key ∷ []) got e = cc e
 op_kept geo lists verb.ReplaceIf (key ∷ expected ∷ []) got e = cc e
 op_kept geo lists verb.ReplaceIf (key ∷ expected ∷ value ∷ []) got e =
     let asked : Op = op.ReplaceIf key expected value in
-    let k = expected_kept key expected (written geo key value asked) got e in
+    let k = expected_kept key expected (op_with_value geo key value asked) got e in
     by_entry geo key value asked got (λ fits. (fits, k.0)) k.1
 op_kept geo lists verb.ReplaceIf (key ∷ expected ∷ value ∷ other ∷ others) got e = cc e
 op_kept geo lists verb.Remove [] got e = cc e
@@ -142,7 +142,7 @@ op_kept geo lists verb.RemoveIf [] got e = cc e
 op_kept geo lists verb.RemoveIf (key ∷ []) got e = cc e
 op_kept geo lists verb.RemoveIf (key ∷ expected ∷ []) got e =
     let asked : Op = op.RemoveIf key expected in
-    let k = expected_kept key expected (keyed key asked) got e in
+    let k = expected_kept key expected (op_on_key key asked) got e in
     by_key geo key asked got (λ is. (is, k.0)) k.1
 op_kept geo lists verb.RemoveIf (key ∷ expected ∷ other ∷ others) got e = cc e
 op_kept geo lists verb.Count [] got e = cc e
@@ -191,13 +191,13 @@ line_accepted geo lists (caller ∷ word ∷ argument ∷ arguments) line e = el
 ]
 
 -- a line that is built is one that was accepted
-built_kept : (geo : Geo) (result : Result Line LineCause) (line : Line) → ((got : Line) → result ≡ Ok got → IsAccepted geo got) → built result ≡ Ok line → IsLineFor geo line
+built_kept : (geo : Geo) (result : Result Line LineCause) (line : Line) → ((got : Line) → result ≡ Ok got → IsAccepted geo got) → built_line result ≡ Ok line → IsLineFor geo line
 built_kept geo (Err why) line accepted e = cc e
 built_kept geo (Ok got) line accepted e = elim (cases_Bool (is_built got)) [
   | inl is ↦
       let same : got ≡ line = ok_same (rw is at e) in
       let it = accepted got refl in
-      subst (IsLineFor geo) same (record { is_done = is; caller = it.caller; limits = it.limits })
+      subst (IsLineFor geo) same (record { is_built_line = is; caller = it.caller; limits = it.limits })
   | inr is_not ↦ let h = rw is_not at e in cc h
 ]
 
@@ -216,6 +216,6 @@ pub lines_kept : (geo : Geo) (number lists : ℕ) (rows : List (List (List ℕ))
 lines_kept geo number lists [] lines e =
     let same : [] ≡ lines = ok_same e in subst (IsFor geo) same (All-nil (IsLineFor geo))
 lines_kept geo number lists (row ∷ rows) lines e =
-    let result = built (line_of geo lists row) in
+    let result = built_line (line_of geo lists row) in
     then_kept geo number result (lines_from geo (number + 1) (lists_with lists result) rows) lines
     (λ got is. built_kept geo (line_of geo lists row) got (line_accepted geo lists row) is) (lines_kept geo (number + 1) (lists_with lists result) rows) e

@@ -9,7 +9,7 @@ use Rattle.cm_plain.specs.Slots.{slot_for}
 use Rattle.cm_plain.specs.Readings.{Reading, Stands, entry, reading_at}
 use Rattle.cm_plain.specs.States.{pair_of}
 use Rattle.cm_plain.proofs.ListElements.{In}
-use Rattle.cm_recover.specs.Occupied.{OccupiedSlot}
+use Rattle.cm_recover.specs.OccupiedSlots.{OccupiedSlot}
 use Rattle.cm_recover.specs.Judgements.{judgement, judgement_beside, judgement_on_reading}
 
 -- a number among others passes the test of it

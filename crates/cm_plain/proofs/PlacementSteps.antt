@@ -15,13 +15,13 @@ use Rattle.cm_plain.specs.States.{IsState, State, entry_of}
 use Rattle.cm_plain.specs.Rooms.{is_new_tier, is_nowhere, room_for, spot_in}
 use Rattle.cm_plain.specs.Changes.{after, entry_at, kind_in, placing_change, planned_change, with_entry, without}
 use Rattle.cm_plain.specs.Steps.{Plans, Step, Decision, StepAs, decision, changes_state, is_change, last_number, reply_of}
-use Rattle.cm_plain.specs.declared.rooms.Placing.{Placing}
-use Rattle.cm_plain.specs.Placings.{IsPlacing}
-use Rattle.cm_plain.specs.Segments.{IsSegment, Places, PlacesFor, Segment}
+use Rattle.cm_plain.specs.declared.rooms.Placement.{Placement}
+use Rattle.cm_plain.specs.Placements.{IsPlacement}
+use Rattle.cm_plain.specs.Segments.{IsSegment, PlacesValue, IsPlacingOp, Segment}
 use Rattle.cm_plain.specs.States.{run_start}
 use Rattle.std.specs.List.{All}
 use Rattle.std.proofs.lemmas.Option.{same_Some}
-use Rattle.cm_plain.proofs.Placing.{chain_for, placed_state, starts_apart}
+use Rattle.cm_plain.proofs.Placements.{chain_for, placed_state, starts_apart}
 use Rattle.cm_plain.proofs.SegmentState.{next_counted}
 
 -- the chain after a value went to its room
@@ -74,7 +74,7 @@ is_change_beside false = refl
 -- a value that was placed was placed by one step
 pub step_placed : (seen : Segment) (grant : Bool) (key value : List ℕ) (room : Room) (spot : Spot) (op : Op) → IsState seen.geo seen.segment seen.state
     → Fits seen.geo (length key) (length value) → segment_of_key seen.geo key ≡ seen.segment → room_for seen.geo seen.state key (need seen.geo (length key) (length value)) ≡ room
-    → spot_in room (entry_of key seen.state) ≡ Some spot → (seen.number == last_number) ≡ false → (is_new_tier room && not grant) ≡ false → PlacesFor seen key value op
+    → spot_in room (entry_of key seen.state) ≡ Some spot → (seen.number == last_number) ≡ false → (is_new_tier room && not grant) ≡ false → IsPlacingOp seen key value op
     → Step seen.geo seen.segment seen.state seen.number grant op (state_with seen.geo seen.state key value room spot) (reply_beside (is_some (entry_of key seen.state)))
 step_placed seen grant key value room spot op is fits here room_is at counts granted places =
     let geo = seen.geo in
@@ -98,53 +98,53 @@ step_placed seen grant key value room spot op is fits here room_is at counts gra
     (change, plans, sym later, sym (reply_is room old op key))
 
 -- the segment after a value went to its room
-abbrev pub segment_with : Segment → List ℕ → List ℕ → Placing → Segment
-segment_with seen key value placing_change = record {
+abbrev pub segment_with : Segment → List ℕ → List ℕ → Placement → Segment
+segment_with seen key value placement = record {
   geo = seen.geo;
   segment = seen.segment;
   number = seen.number + 1;
-  state = state_with seen.geo seen.state key value placing_change.room placing_change.spot;
+  state = state_with seen.geo seen.state key value placement.room placement.spot;
 }
 
 -- the run of a placed value begins where no other does
-pub placing_apart : (seen : Segment) (key value : List ℕ) (placing_change : Placing) → IsSegment seen → Fits seen.geo (length key) (length value)
-    → IsPlacing seen.geo seen.state key (length value) placing_change
-    → All (λ other. run_start seen.geo other ≢ run_start seen.geo (entry_at key value placing_change.spot.place placing_change.spot.chunk)) (without key seen.state.entries)
-placing_apart seen key value placing_change is fits placed =
-    starts_apart seen.geo seen.segment seen.state key value placing_change.spot is.rests fits placing_change.room placed.room_is placed.spot_is
+pub placing_apart : (seen : Segment) (key value : List ℕ) (placement : Placement) → IsSegment seen → Fits seen.geo (length key) (length value)
+    → IsPlacement seen.geo seen.state key (length value) placement
+    → All (λ other. run_start seen.geo other ≢ run_start seen.geo (entry_at key value placement.spot.place placement.spot.chunk)) (without key seen.state.entries)
+placing_apart seen key value placement is fits placed =
+    starts_apart seen.geo seen.segment seen.state key value placement.spot is.rests fits placement.room placed.room_is placed.spot_is
 
 -- the segment after a value went to its room is one
-pub is_segment_with : (seen : Segment) (key value : List ℕ) (placing_change : Placing) → IsSegment seen → Fits seen.geo (length key) (length value)
-    → segment_of_key seen.geo key ≡ seen.segment → IsPlacing seen.geo seen.state key (length value) placing_change → seen.number ≢ last_number
-    → IsSegment (segment_with seen key value placing_change)
-is_segment_with seen key value placing_change is fits here placed counts = record {
-  rests = placed_state seen.geo seen.segment seen.state key value placing_change.spot is.rests fits here placing_change.room placed.room_is placed.spot_is;
+pub is_segment_with : (seen : Segment) (key value : List ℕ) (placement : Placement) → IsSegment seen → Fits seen.geo (length key) (length value)
+    → segment_of_key seen.geo key ≡ seen.segment → IsPlacement seen.geo seen.state key (length value) placement → seen.number ≢ last_number
+    → IsSegment (segment_with seen key value placement)
+is_segment_with seen key value placement is fits here placed counts = record {
+  rests = placed_state seen.geo seen.segment seen.state key value placement.spot is.rests fits here placement.room placed.room_is placed.spot_is;
   counted = next_counted is counts;
 }
 
 -- the segment that was made is the one with the value
-pub same_segment : (seen : Segment) (key value : List ℕ) (placing_change : Placing) (links : Bool) (chain : List ℕ) (entries : List Placed)
-    → IsPlacing seen.geo seen.state key (length value) placing_change → links ≡ is_new_tier placing_change.room
-    → chain ≡ (if links then seen.state.chain ++ placing_change.spot.place ∷ [] else seen.state.chain)
-    → entries ≡ with_entry seen.geo (entry_at key value placing_change.spot.place placing_change.spot.chunk) (without key seen.state.entries)
-    → segment_with seen key value placing_change ≡ record { geo = seen.geo; segment = seen.segment; number = seen.number + 1; state = record { chain = chain; entries = entries } }
-same_segment seen key value placing_change links chain entries placed links_is chain_is' entries_is =
-    let e : chain ≡ chain_for placing_change.room seen.state.chain = rw links_is at chain_is' ∙ sym (chain_is placing_change.room (entry_of key seen.state) placing_change.spot seen.state.chain placed.spot_is) in
+pub same_segment : (seen : Segment) (key value : List ℕ) (placement : Placement) (links : Bool) (chain : List ℕ) (entries : List Placed)
+    → IsPlacement seen.geo seen.state key (length value) placement → links ≡ is_new_tier placement.room
+    → chain ≡ (if links then seen.state.chain ++ placement.spot.place ∷ [] else seen.state.chain)
+    → entries ≡ with_entry seen.geo (entry_at key value placement.spot.place placement.spot.chunk) (without key seen.state.entries)
+    → segment_with seen key value placement ≡ record { geo = seen.geo; segment = seen.segment; number = seen.number + 1; state = record { chain = chain; entries = entries } }
+same_segment seen key value placement links chain entries placed links_is chain_is' entries_is =
+    let e : chain ≡ chain_for placement.room seen.state.chain = rw links_is at chain_is' ∙ sym (chain_is placement.room (entry_of key seen.state) placement.spot seen.state.chain placed.spot_is) in
     rw (e, entries_is) refl
 
 -- it answers each operation that places this value for this key
-pub places_with : (seen : Segment) (grant : Bool) (key value : List ℕ) (placing_change : Placing) (answer : Reply) → IsSegment seen → Fits seen.geo (length key) (length value)
-    → segment_of_key seen.geo key ≡ seen.segment → IsPlacing seen.geo seen.state key (length value) placing_change → (seen.number == last_number) ≡ false
-    → (is_new_tier placing_change.room && not grant) ≡ false → answer ≡ reply_beside placing_change.replaces → Places seen (segment_with seen key value placing_change) grant key value answer
-places_with seen grant key value placing_change answer is fits here placed counts granted answer_is =
+pub places_with : (seen : Segment) (grant : Bool) (key value : List ℕ) (placement : Placement) (answer : Reply) → IsSegment seen → Fits seen.geo (length key) (length value)
+    → segment_of_key seen.geo key ≡ seen.segment → IsPlacement seen.geo seen.state key (length value) placement → (seen.number == last_number) ≡ false
+    → (is_new_tier placement.room && not grant) ≡ false → answer ≡ reply_beside placement.replaces → PlacesValue seen (segment_with seen key value placement) grant key value answer
+places_with seen grant key value placement answer is fits here placed counts granted answer_is =
     let had = is_some (entry_of key seen.state) in
     let replies : answer ≡ reply_beside had = answer_is ∙ ap reply_beside placed.replaces_is in
     record {
       answers = λ op places. record {
         geo_same = refl;
         segment_same = refl;
-        step = subst (λ (it : Reply). Step seen.geo seen.segment seen.state seen.number grant op (state_with seen.geo seen.state key value placing_change.room placing_change.spot) it) (sym replies)
-            (step_placed seen grant key value placing_change.room placing_change.spot op is.rests fits here placed.room_is placed.spot_is counts granted places);
+        step = subst (λ (it : Reply). Step seen.geo seen.segment seen.state seen.number grant op (state_with seen.geo seen.state key value placement.room placement.spot) it) (sym replies)
+            (step_placed seen grant key value placement.room placement.spot op is.rests fits here placed.room_is placed.spot_is counts granted places);
         number_is = rw (replies, is_change_beside had) refl;
       };
     }

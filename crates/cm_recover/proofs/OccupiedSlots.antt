@@ -7,7 +7,7 @@ use Rattle.cm_plain.specs.Slots.{Slot, slot_in}
 use Rattle.cm_plain.specs.FoundChains.{chain_of}
 use Rattle.cm_plain.proofs.Each.{Pairs}
 use Rattle.cm_plain.proofs.ListElements.{In, in_range, joined_from, joined_to, mapped_from, mapped_to, pairs_joined, pairs_mapped, range_differs, range_from}
-use Rattle.cm_recover.specs.Occupied.{OccupiedSlot, occupied_slots, occupied_at, occupied_in}
+use Rattle.cm_recover.specs.OccupiedSlots.{OccupiedSlot, occupied_slots, occupied_at, occupied_in}
 
 -- a slot that isn't empty stands in a tier of the chain
 pub record StandsIn (geo : Geo) (words : List ℕ) (at : OccupiedSlot) : Type 0 where

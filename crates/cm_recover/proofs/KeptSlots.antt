@@ -10,13 +10,13 @@ use Rattle.cm_plain.specs.States.{chunks_of}
 use Rattle.cm_plain.specs.Rooms.{meets}
 use Rattle.cm_plain.proofs.Each.{Pairs, each_append, each_both, each_fails, each_weaker}
 use Rattle.cm_plain.proofs.Apart.{IsApart, Rising, apart_not_met, apart_starts, rising_with}
-use Rattle.cm_plain.proofs.Placing.{each_with, keys_with}
+use Rattle.cm_plain.proofs.Placements.{each_with, keys_with}
 use Rattle.cm_plain.proofs.States.{Differs}
 use Rattle.cm_plain.proofs.ListElements.{In, in_has, none_any, some_any}
 use Rattle.cm_plain.proofs.EntrySets.{in_with, stays_with}
 use Rattle.cm_recover.specs.declared.cause.Cause.{Cause}
 use Rattle.cm_recover.specs.declared.cause.Cause.TheVariants as cause
-use Rattle.cm_recover.specs.Occupied.{OccupiedSlot}
+use Rattle.cm_recover.specs.OccupiedSlots.{OccupiedSlot}
 use Rattle.cm_recover.specs.Judgements.{Judgement, is_dropped, is_kept, judgement_beside}
 use Rattle.cm_recover.specs.KeptSlots.{KeptEntries, kept_with}
 use Rattle.cm_recover.specs.Laws.{IsCauseOfTorn}

@@ -5,7 +5,7 @@ use Rattle.std.proofs.lemmas.List.{take_all}
 use Rattle.std.proofs.lemmas.List.Sums.{sum_by-cons}
 use Rattle.cm_geo.specs.declared.geo.Geo.{Geo}
 use Rattle.cm_plain.specs.FoundChains.{KeepsAllowance, chain_of}
-use Rattle.cm_recover.specs.Allowed.{allowed_places, extra_before}
+use Rattle.cm_recover.specs.AllowedPlaces.{allowed_places, extra_before}
 
 -- a sum up to a number and the next part are within the whole sum
 part_within : (f : ℕ → ℕ) (low count part : ℕ) → part < count → sum_by f (range_with_len low part) + f (low + part) ≤ sum_by f (range_with_len low count)

@@ -11,8 +11,8 @@ use Rattle.cm_plain.specs.declared.room.Room.TheVariants.{InPlace}
 use Rattle.cm_plain.specs.States.{State, entry_of, value_of}
 use Rattle.cm_plain.specs.Changes.{placed_value, removing_change, without}
 use Rattle.cm_plain.specs.Steps.{Decision, Plans, Step, StepAs, decision, changes_state, is_change, is_value, is_worn, last_number, reply_of, room_wanted, unmet_reply}
-use Rattle.cm_plain.specs.Segments.{Answered, IsSegment, Segment, Takes, TakesFor, reply_to_taking}
-use Rattle.cm_plain.proofs.Placing.{taken_state}
+use Rattle.cm_plain.specs.Segments.{AnswersOp, IsSegment, Segment, RemovesKey, IsRemovingOp, removal_reply}
+use Rattle.cm_plain.proofs.Placements.{removed_state}
 use Rattle.cm_plain.proofs.SegmentState.{next_counted}
 
 -- an operation that places nothing wants no room
@@ -29,17 +29,17 @@ no_room geo state (ListAll segment) e = refl
 no_room geo state (Sweep segment prefix) e = refl
 
 -- the reply to an entry's going is one to a change
-pub is_taken : (op : Op) (key : List ℕ) → is_change (reply_of kind.Remove op key) ≡ true
-is_taken (Put key value) changed = refl
-is_taken (Get key) changed = refl
-is_taken (PutIfAbsent key value) changed = refl
-is_taken (Replace key value) changed = refl
-is_taken (ReplaceIf key expected value) changed = refl
-is_taken (Remove key) changed = refl
-is_taken (RemoveIf key expected) changed = refl
-is_taken (Count segment) changed = refl
-is_taken (ListAll segment) changed = refl
-is_taken (Sweep segment prefix) changed = refl
+pub is_removed : (op : Op) (key : List ℕ) → is_change (reply_of kind.Remove op key) ≡ true
+is_removed (Put key value) changed = refl
+is_removed (Get key) changed = refl
+is_removed (PutIfAbsent key value) changed = refl
+is_removed (Replace key value) changed = refl
+is_removed (ReplaceIf key expected value) changed = refl
+is_removed (Remove key) changed = refl
+is_removed (RemoveIf key expected) changed = refl
+is_removed (Count segment) changed = refl
+is_removed (ListAll segment) changed = refl
+is_removed (Sweep segment prefix) changed = refl
 
 -- the state without a key's entry
 abbrev pub state_without : State → List ℕ → State
@@ -52,14 +52,14 @@ segment_without seen key = record { geo = seen.geo; segment = seen.segment; numb
 -- it is one
 pub is_segment_without : (seen : Segment) (key : List ℕ) → IsSegment seen → seen.number ≢ last_number → IsSegment (segment_without seen key)
 is_segment_without seen key is counts = record {
-  rests = taken_state seen.geo seen.segment seen.state key is.rests;
+  rests = removed_state seen.geo seen.segment seen.state key is.rests;
   counted = next_counted is counts;
 }
 
 -- an entry that was taken away was taken by one step
-step_taken : (seen : Segment) (grant : Bool) (key : List ℕ) (op : Op) → IsSegment seen → (seen.number == last_number) ≡ false → TakesFor seen key op
+step_removed : (seen : Segment) (grant : Bool) (key : List ℕ) (op : Op) → IsSegment seen → (seen.number == last_number) ≡ false → IsRemovingOp seen key op
     → Step seen.geo seen.segment seen.state seen.number grant op (state_without seen.state key) (reply_of kind.Remove op key)
-step_taken seen grant key op is counts takes =
+step_removed seen grant key op is counts takes =
     let change = removing_change seen.geo op key (entry_of key seen.state) in
     let plans : Plans seen.geo seen.segment seen.state op change = record {
       is_state = is.rests;
@@ -67,33 +67,33 @@ step_taken seen grant key op is counts takes =
       room = rw (no_room seen.geo seen.state op takes.taken) refl;
       key = takes.keyed;
       change_is = rw takes.taken refl;
-      leads = taken_state seen.geo seen.segment seen.state key is.rests;
+      leads = removed_state seen.geo seen.segment seen.state key is.rests;
     } in
     let course_is : decision seen.geo seen.state seen.number grant op ≡ changes_state = rw (takes.met, no_room seen.geo seen.state op takes.taken, counts) refl in
     subst (λ (it : Decision). StepAs it seen.geo seen.segment seen.state op (state_without seen.state key) (reply_of kind.Remove op key)) (sym course_is)
     (change, plans, refl, refl)
 
 -- where no number is left, no entry is taken
-step_worn : (seen : Segment) (grant : Bool) (key : List ℕ) (op : Op) → (seen.number == last_number) ≡ true → TakesFor seen key op
-    → Step seen.geo seen.segment seen.state seen.number grant op seen.state (reply_to_taking false op key)
+step_worn : (seen : Segment) (grant : Bool) (key : List ℕ) (op : Op) → (seen.number == last_number) ≡ true → IsRemovingOp seen key op
+    → Step seen.geo seen.segment seen.state seen.number grant op seen.state (removal_reply false op key)
 step_worn seen grant key op worn takes =
     let course_is : decision seen.geo seen.state seen.number grant op ≡ is_worn = rw (takes.met, no_room seen.geo seen.state op takes.taken, worn) refl in
-    subst (λ (it : Decision). StepAs it seen.geo seen.segment seen.state op seen.state (reply_to_taking false op key)) (sym course_is) (refl, refl)
+    subst (λ (it : Decision). StepAs it seen.geo seen.segment seen.state op seen.state (removal_reply false op key)) (sym course_is) (refl, refl)
 
 -- it answers each operation that takes this key's entry away
-pub takes_without : (seen : Segment) (key : List ℕ) → IsSegment seen → (seen.number == last_number) ≡ false → Takes seen (segment_without seen key) key true
-takes_without seen key is counts = record {
+pub removes_without : (seen : Segment) (key : List ℕ) → IsSegment seen → (seen.number == last_number) ≡ false → RemovesKey seen (segment_without seen key) key true
+removes_without seen key is counts = record {
   answers = λ op grant takes. record {
     geo_same = refl;
     segment_same = refl;
-    step = step_taken seen grant key op is counts takes;
-    number_is = rw (is_taken op key) refl;
+    step = step_removed seen grant key op is counts takes;
+    number_is = rw (is_removed op key) refl;
   };
 }
 
 -- where no number is left, the segment as it is answers them
-pub takes_worn : (seen : Segment) (key : List ℕ) → (seen.number == last_number) ≡ true → Takes seen seen key false
-takes_worn seen key worn = record {
+pub removes_worn : (seen : Segment) (key : List ℕ) → (seen.number == last_number) ≡ true → RemovesKey seen seen key false
+removes_worn seen key worn = record {
   answers = λ op grant takes. record {
     geo_same = refl;
     segment_same = refl;
@@ -103,9 +103,9 @@ takes_worn seen key worn = record {
 }
 
 -- what is answered to a removal, by whether the entry was taken away
-pub removal_answered : (old new : Segment) (grant : Bool) (key : List ℕ) (taken : Bool) (op : Op) → ((it : Bool) → reply_to_taking it op key ≡ (if it then reply.Removed else reply.Worn))
-    → TakesFor old key op → Takes old new key taken → Answered old new grant op (if taken then reply.Removed else reply.Worn)
-removal_answered old new grant key taken op same for takes = subst (Answered old new grant op) (same taken) (takes.answers op grant for)
+pub removal_answered : (old new : Segment) (grant : Bool) (key : List ℕ) (taken : Bool) (op : Op) → ((it : Bool) → removal_reply it op key ≡ (if it then reply.Removed else reply.Worn))
+    → IsRemovingOp old key op → RemovesKey old new key taken → AnswersOp old new grant op (if taken then reply.Removed else reply.Worn)
+removal_answered old new grant key taken op same for takes = subst (AnswersOp old new grant op) (same taken) (takes.answers op grant for)
 
 -- a key that nothing is answered for has an entry
 is_there : (value : Option (List ℕ)) → None ≡ (if is_some value then None else Some reply.Missing) → is_some value ≡ true
@@ -114,11 +114,11 @@ is_there (Some value) e = refl
 
 -- what is answered to a removal
 pub remove_answered : (old new : Segment) (grant : Bool) (key : List ℕ) (taken : Bool) → None ≡ (if is_some (value_of key old.state) then None else Some reply.Missing)
-    → Takes old new key taken → Answered old new grant (Remove key) (if taken then reply.Removed else reply.Worn)
+    → RemovesKey old new key taken → AnswersOp old new grant (Remove key) (if taken then reply.Removed else reply.Worn)
 remove_answered old new grant key taken none takes =
     removal_answered old new grant key taken (Remove key) replies (record { met = is_there (value_of key old.state) none; taken = refl; keyed = refl }) takes
   where
-    replies : (it : Bool) → reply_to_taking it (Remove key) key ≡ (if it then reply.Removed else reply.Worn)
+    replies : (it : Bool) → removal_reply it (Remove key) key ≡ (if it then reply.Removed else reply.Worn)
     replies true = refl
     replies false = refl
 
@@ -132,10 +132,10 @@ is_expected value expected e = elim (cases_Bool (is_value value expected)) [
 -- what is answered to a removal where a value is expected
 pub remove_if_answered : (old new : Segment) (grant : Bool) (key expected : List ℕ) (taken : Bool)
     → (let value = value_of key old.state in None ≡ (if is_value value expected then None else Some (unmet_reply value)))
-    → Takes old new key taken → Answered old new grant (RemoveIf key expected) (if taken then reply.Removed else reply.Worn)
+    → RemovesKey old new key taken → AnswersOp old new grant (RemoveIf key expected) (if taken then reply.Removed else reply.Worn)
 remove_if_answered old new grant key expected taken none takes =
     removal_answered old new grant key taken (RemoveIf key expected) replies (record { met = is_expected (value_of key old.state) expected none; taken = refl; keyed = refl }) takes
   where
-    replies : (it : Bool) → reply_to_taking it (RemoveIf key expected) key ≡ (if it then reply.Removed else reply.Worn)
+    replies : (it : Bool) → removal_reply it (RemoveIf key expected) key ≡ (if it then reply.Removed else reply.Worn)
     replies true = refl
     replies false = refl
