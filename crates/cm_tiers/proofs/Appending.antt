@@ -13,10 +13,9 @@ use Rattle.cm_plain.specs.States.{IsChain}
 use Rattle.cm_plain.specs.Slots.{word_at}
 use Rattle.cm_plain.specs.Rooms.{is_unlinked}
 use Rattle.cm_plain.specs.FoundChains.{FoundChain, chain_of, chain_from}
-use Rattle.cm_plain.proofs.Chains.{IsOutside, chain_with, each_other}
+use Rattle.cm_plain.proofs.Chains.{IsOutside, chain_with, each_other, leads_outside, outside_leads, short_beside}
 use Rattle.cm_tiers.specs.declared.places.Chain.{Chain}
 use Rattle.cm_tiers.specs.Chains.{IsLinked, IsRead, places_of}
-use Rattle.cm_tiers.proofs.ChainLength.{leads_outside, outside_leads, short_beside}
 use Rattle.cm_tiers.proofs.ChainSteps.{ends, first_place, goes_on, is_cut}
 
 -- ---- the words after the store

@@ -9,12 +9,11 @@ use Rattle.cm_geo.proofs.Ranges.{tiers_range}
 use Rattle.cm_plain.specs.States.{IsChain}
 use Rattle.cm_plain.specs.Slots.{word_at}
 use Rattle.cm_plain.specs.FoundChains.{chain_of, chain_from}
-use Rattle.cm_plain.proofs.Chains.{IsOutside, chain_with}
+use Rattle.cm_plain.proofs.Chains.{IsOutside, chain_with, leads_outside, short_beside}
 use Rattle.cm_words.specs.Memory.{FitsNotes, MemSeen}
 use Rattle.cm_words.specs.Effects.{Reads, Knows}
 use Rattle.cm_words.proofs.FittingLists.{known_word}
 use Rattle.cm_tiers.proofs.Inner.{link_inner}
-use Rattle.cm_tiers.proofs.ChainLength.{leads_outside, short_beside}
 use Rattle.cm_tiers.proofs.ChainSteps.{ends, first_place, goes_on, is_cut}
 
 -- these places were found, in eight words of which the rest is 0

@@ -100,7 +100,7 @@ fn a_link_leads_to_a_place_or_to_none(rt: HostRuntime) -> Result<(), Fail> {
 }
 
 // Links the sixth tier behind the third, where anything may be stored.
-#[tactic(auto, using(cm_words::proofs::Storing::may_store_free))]
+#[tactic(auto, using(cm_words::proofs::StoreLists::may_store_free))]
 fn link_sixth<F: Fuse>(words: &mut Words, geo: &Geo, fuse: F) -> Result<(), Dead>
     requires nonzero { 0 < words.old.geo.segments }
     requires geo { words.old.geo ≡ geo.now }

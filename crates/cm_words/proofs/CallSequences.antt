@@ -1,5 +1,5 @@
 -- Calls over a memory, one after the other.
-use Rattle.std.proofs.Common.{◌≡◌, ℕ, [], ◌∷◌, Ok, Err, false, true, arith}
+use Rattle.std.proofs.Common.{◌≡◌, ℕ, [], ◌∷◌, Ok, Err, false, true, arith, subst}
 use Rattle.std.specs.Prelude.{IsErr}
 use Rattle.std.specs.declared.result.Result.{Result}
 use Rattle.cm_words.specs.Memory.{MemSeen}
@@ -7,7 +7,7 @@ use Rattle.cm_words.specs.declared.fuse.EventKind.{EventKind}
 use Rattle.cm_words.specs.declared.fuse.EventKind.TheVariants.{Load}
 use Rattle.cm_words.specs.Meters.{MakesEvent, MeterSeen, ReportsDeath}
 use Rattle.cm_words.specs.Effects.{IsAsBefore, Reads}
-use Rattle.cm_words.specs.Calls.{HasDone, HasLoaded, Loads, LoadsOnce, Performs, PerformsOnce}
+use Rattle.cm_words.specs.Calls.{HasDone, HasLoaded, Loads, LoadsOnce, Performs, PerformsOnce, StoresOnce}
 use Rattle.cm_words.proofs.MeterCounts.{reports_after, survives_killed, survives_reflexive, survives_transitive}
 use Rattle.cm_words.proofs.FittingLists.{reads_reflexive, reads_transitive}
 
@@ -128,3 +128,9 @@ loads_then_ok seen rest a b c value other on p q = ends_ok seen rest Reads Reads
 pub loads_then_err : {M T U E F : Type 0} (seen : M → MemSeen) (rest : M → M → Type 0) (a b c : M) (error : E) (result : Result U F) → IsErr result → (rest a b → rest b c → rest a c)
     → HasLoaded seen rest a b → Loads {T = T} seen rest b c (Err error) → Loads seen rest a c result
 loads_then_err seen rest a b c error result err on p q = then_err seen rest Reads Reads Reads Reads Reads a b c error result err on p q (reads_transitive (seen a) (seen b) (seen c))
+
+-- ---- one store, by another name of its address and its word
+
+pub stores_once_as : {M T E : Type 0} (seen : M → MemSeen) (rest : M → M → Type 0) (at word other another : ℕ) (a b : M) (result : Result T E) → at ≡ other → word ≡ another → StoresOnce seen rest at word a b result → StoresOnce seen rest other another a b result
+stores_once_as seen rest at word other another a b result same equal p =
+    subst (λ (w : ℕ). StoresOnce seen rest other w a b result) equal (subst (λ (k : ℕ). StoresOnce seen rest k word a b result) same p)
