@@ -1,19 +1,20 @@
-//! A removal round the end of a tier, and removals from full and half full tiers against a plain rebuild.
+//! A removal round the end of a tier, one that is stopped at each of its stores, and removals from full and half
+//! full tiers against a plain rebuild.
 
-ghost use Rattle.std.specs.Prelude.{◌≡◌, ◌*◌, ◌<◌, OnOk, false};
+ghost use Rattle.std.specs.Prelude.{◌≡◌, ◌<◌, IfOk, OnOk, false};
 ghost use Rattle.cm_words.specs.Memory.{MemSeen};
-ghost use Rattle.cm_words.specs.declared.access.Access.TheVariants.{Writable};
+ghost use Rattle.cm_words.specs.Calls.{IsWritable};
 
 use crate::{Hit, find, put_slot, remove_at, slot_of};
 use cm_geo::Geo;
-use cm_words::{Dead, Mem, Never, PlainMem, Words};
+use cm_words::{Dead, FixedMem, Fuse, KillFuse, Mem, Never, PlainMem, Words};
+use std::alloc::Global;
 use std::test::Fail;
 
 // Puts a fingerprint into a slot, where anything may be stored.
 #[tactic(auto, using(crate::proofs::RemovalLoop::free_of_rules))]
 fn put<M: Mem>(mem: &mut M, geo: &Geo, slot: u32, fingerprint: u32) -> Result<(), Dead>
-    requires writable { (M.seen mem.old).setting.access ≡ Writable }
-    requires geo { (M.seen mem.old).setting.geo ≡ geo.now }
+    requires writable { IsWritable (M.seen mem.old) geo.now }
     requires free { (M.seen mem.old).setting.guarded ≡ false }
     requires chunks { geo.now.chunks ≡ 64 }
     requires slot { slot < 128 }
@@ -25,8 +26,7 @@ fn put<M: Mem>(mem: &mut M, geo: &Geo, slot: u32, fingerprint: u32) -> Result<()
 // Removes a slot, where anything may be stored.
 #[tactic(auto, using(crate::proofs::RemovalLoop::free_of_rules))]
 fn remove<M: Mem>(mem: &mut M, geo: &Geo, slot: u32) -> Result<(), Dead>
-    requires writable { (M.seen mem.old).setting.access ≡ Writable }
-    requires geo { (M.seen mem.old).setting.geo ≡ geo.now }
+    requires writable { IsWritable (M.seen mem.old) geo.now }
     requires free { (M.seen mem.old).setting.guarded ≡ false }
     requires chunks { geo.now.chunks ≡ 64 }
     requires slot { slot < 128 }
@@ -77,6 +77,82 @@ fn a_removal_goes_round_the_end(rt: HostRuntime) -> Result<(), Fail> {
     Ok(())
 }
 
+// The first slots from that of three fingerprints with home 12 on, and the words of these.
+const WORDS: [u64; 3] = [12 << 32 | 13, 140 << 32 | 13, 268 << 32 | 13];
+
+// The words of a map whose first tier has these three fingerprints.
+#[tactic(auto, using(crate::proofs::RemovalLoop::free_of_rules))]
+fn three_slots(alloc: Global, geo: &Geo) -> Result<Words, Fail>
+    requires { geo.now.chunks ≡ 64 }
+    ensures { IfOk result (λ words. words.geo ≡ geo.now) }
+{
+    let mut words = Words::empty(alloc, geo)?;
+    for i in 0..3u32 {
+        let at = geo.slot_at(0, 12 + i);
+        if at < geo.total_words() {
+            words.set(at, WORDS[i as usize]);
+        }
+    }
+    Ok(words)
+}
+
+// Removes a slot until the fuse dies, where anything may be stored.
+fn remove_until<F: Fuse>(words: &mut Words, geo: &Geo, fuse: F, slot: u32) -> Result<(), Dead>
+    requires geo { words.old.geo ≡ geo.now }
+    requires chunks { geo.now.chunks ≡ 64 }
+    requires slot { slot < 128 }
+{
+    let mut mem = PlainMem::free(words, 0, fuse);
+    remove(&mut mem, geo, slot)
+}
+
+// A slot's word.
+fn word_in(words: &Words, slot: u32) -> Option<u64> {
+    let geo = words.geo();
+    if slot >= 2 * geo.chunks() {
+        return None;
+    }
+    FixedMem::new(words, 0).load(geo.slot_at(0, slot)).ok()
+}
+
+#[test]
+fn a_removal_is_stopped_at_each_of_its_stores(rt: HostRuntime) -> Result<(), Fail> {
+    let geo = Geo::new(1, 1, 64, 4, 0)?;
+    let [first, second, third] = WORDS;
+    let rows = [
+        (
+            KillFuse::Stores { left: 0 },
+            Err(Dead),
+            [first, second, third],
+        ),
+        (
+            KillFuse::Stores { left: 1 },
+            Err(Dead),
+            [second, second, third],
+        ),
+        (
+            KillFuse::Stores { left: 2 },
+            Err(Dead),
+            [second, third, third],
+        ),
+        (KillFuse::Stores { left: 3 }, Ok(()), [second, third, 0]),
+        (KillFuse::Never, Ok(()), [second, third, 0]),
+    ];
+    for (fuse, answer, left) in rows {
+        let mut words = three_slots(rt.alloc(), &geo)?;
+        let found = remove_until(&mut words, &geo, fuse, 12);
+        assert_eq!(rt; found, answer);
+        for (slot, word) in [(12, left[0]), (13, left[1]), (14, left[2]), (15, 0)] {
+            assert_eq!(rt;
+                word_in(&words, slot),
+                Some(word),
+                "slot {slot} of {answer:?}"
+            );
+        }
+    }
+    Ok(())
+}
+
 // A plain table: fingerprints and 1, or 0 in an empty slot.
 type Table = [u32; 128];
 
@@ -117,8 +193,7 @@ fn rebuilt(table: &Table, slot: u32) -> Table {
 
 // The slots of the first tier.
 fn read<M: Mem>(mem: &mut M, geo: &Geo) -> Result<Table, Dead>
-    requires writable { (M.seen mem.old).setting.access ≡ Writable }
-    requires geo { (M.seen mem.old).setting.geo ≡ geo.now }
+    requires writable { IsWritable (M.seen mem.old) geo.now }
     requires chunks { geo.now.chunks ≡ 64 }
 {
     let mut table = [0; 128];
@@ -133,8 +208,7 @@ fn read<M: Mem>(mem: &mut M, geo: &Geo) -> Result<Table, Dead>
 
 // Puts a whole table into the first tier.
 fn write<M: Mem>(mem: &mut M, geo: &Geo, table: &Table) -> Result<(), Dead>
-    requires writable { (M.seen mem.old).setting.access ≡ Writable }
-    requires geo { (M.seen mem.old).setting.geo ≡ geo.now }
+    requires writable { IsWritable (M.seen mem.old) geo.now }
     requires free { (M.seen mem.old).setting.guarded ≡ false }
     requires chunks { geo.now.chunks ≡ 64 }
     ensures { OnOk result ((M.seen mem.new).setting ≡ (M.seen mem.old).setting) }
