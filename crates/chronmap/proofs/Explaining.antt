@@ -21,7 +21,7 @@ use Rattle.cm_script.specs.Explained.{Answers, AnswersAll, AnswersBy, AnswersOnc
 use Rattle.cm_script.specs.Scripts.{IsFor, IsLineFor, is_built, is_built_op}
 use Rattle.chronmap.specs.RunRecords.{MapsState, Receives}
 use Rattle.chronmap.proofs.Answering.{all_of_first, answers_more, calls_more, numbered_more}
-use Rattle.chronmap.proofs.Histories.{More, begins, is_legal, more, state_at}
+use Rattle.chronmap.proofs.Histories.{HasHistory, begins, history_more, is_legal, state_at}
 
 -- the remainder by one
 rest_of_one : (n one : ℕ) → one ≡ 1 → n % one ≡ 0
@@ -72,7 +72,7 @@ all_at P (y ∷ xs) (suc at) x all e = all_at P xs at x (λ k d h. all (suc k) d
 -- what stands after so many records were answered
 pub record Ran (geo : Geo) (script : List Line) (at : ℕ) (receipts : List Receipt) (now : Segment) : Type 0 where
   pub answered : AnswersAll geo (enumerate_from 1 (take at script)) receipts
-  pub calls : More geo (calls_in script receipts 0) now
+  pub calls : HasHistory geo (calls_in script receipts 0) now
 
 -- before the first record
 pub ran_none : (geo : Geo) (script : List Line) (receipts : List Receipt) (now : Segment) → receipts ≡ [] → now ≡ record { geo = geo; segment = 0; number = 0; state = one_tier }
@@ -110,7 +110,7 @@ ran_more geo script at receipts line old new receipt one built e ran receives =
     let calls = calls_more script receipts receipt call receives.segment_is called in
     record {
       answered = rw (numbered_more script 1 at line e) (answers_more geo (enumerate_from 1 (take at script)) (1 + at, line) receipts (receipt ∷ []) ran.answered answers);
-      calls = rw calls (more geo (calls_in script receipts 0) old new call ran.calls receives.answered receives.number_is);
+      calls = rw calls (history_more geo (calls_in script receipts 0) old new call ran.calls receives.answered receives.number_is);
     }
 
 only_segment : (geo : Geo) (segment : ℕ) → geo.segments ≡ 1 → segment < geo.segments → 0 ≡ segment

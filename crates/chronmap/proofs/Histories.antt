@@ -23,10 +23,10 @@ abbrev pub state_at : List State → ℕ → State
 state_at hist i = get_or hist i one_tier
 
 -- a call in a history that is written down state after state
-abbrev pub Stands : Geo → List State → Bool → Call → Type 0
-Stands geo hist true call =
+abbrev pub IsAmongStates : Geo → List State → Bool → Call → Type 0
+IsAmongStates geo hist true call =
     (i : ℕ) × (i + 1 < length hist) × (call.receipt.number ≡ 0 + i + 1) × Step geo 0 (state_at hist i) (0 + i) true call.op (state_at hist (i + 1)) call.receipt.reply
-Stands geo hist false call =
+IsAmongStates geo hist false call =
     (i : ℕ) × (i < length hist) × (call.receipt.number ≡ 0 + i) × Step geo 0 (state_at hist i) (0 + i) (grant_of call.receipt.reply) call.op (state_at hist i) call.receipt.reply
 
 -- what was answered so far is a history that leads to the segment as it is now
@@ -38,7 +38,7 @@ pub record History (geo : Geo) (calls : List Call) (hist : List State) (now : Se
   pub last : state_at hist (change_count calls) ≡ now.state
   pub number_is : now.number ≡ change_count calls
   pub numbers : map (λ call. call.receipt.number) (filter is_changing calls) ≡ range_with_len (0 + 1) (change_count calls)
-  pub steps : All (λ call. Stands geo hist (is_changing call) call) calls
+  pub steps : All (λ call. IsAmongStates geo hist (is_changing call) call) calls
   pub below : All (λ call. call.receipt.number ≤ now.number) calls
   pub in_order : AllPairs KeepsOrder calls
 
@@ -66,12 +66,12 @@ range_more low (suc n) =
     rw (e, f) (ap (λ (xs : List ℕ). low ∷ xs) (range_more (low + 1) n))
 
 -- a history with one more state keeps its calls
-stands_longer : (geo : Geo) (hist : List State) (next : State) (changed : Bool) (call : Call) → Stands geo hist changed call → Stands geo (hist ++ next ∷ []) changed call
-stands_longer geo hist next true call h =
+among_longer : (geo : Geo) (hist : List State) (next : State) (changed : Bool) (call : Call) → IsAmongStates geo hist changed call → IsAmongStates geo (hist ++ next ∷ []) changed call
+among_longer geo hist next true call h =
     let here : state_at (hist ++ next ∷ []) h.0 ≡ state_at hist h.0 = get_or_append_left hist (next ∷ []) one_tier h.0 (omega (arith, h.1)) in
     let then : state_at (hist ++ next ∷ []) (h.0 + 1) ≡ state_at hist (h.0 + 1) = get_or_append_left hist (next ∷ []) one_tier (h.0 + 1) h.1 in
     (h.0, omega (arith, h.1, length_push hist next), h.2, rw (here, then) h.3)
-stands_longer geo hist next false call h =
+among_longer geo hist next false call h =
     let here : state_at (hist ++ next ∷ []) h.0 ≡ state_at hist h.0 = get_or_append_left hist (next ∷ []) one_tier h.0 h.1 in
     (h.0, omega (arith, h.1, length_push hist next), h.2, rw here h.3)
 
@@ -98,8 +98,8 @@ copied_change calls call e = filter-append is_changing calls (call ∷ []) ∙ r
 kept_other : (calls : List Call) (call : Call) → is_changing call ≡ false → filter is_changing (calls ++ call ∷ []) ≡ filter is_changing calls
 kept_other calls call e = filter-append is_changing calls (call ∷ []) ∙ rw e (append-nil (filter is_changing calls))
 
-stands_as : (geo : Geo) (hist : List State) (changed : Bool) (call : Call) → is_changing call ≡ changed → Stands geo hist changed call → Stands geo hist (is_changing call) call
-stands_as geo hist changed call e h = subst (λ (b : Bool). Stands geo hist b call) (sym e) h
+among_as : (geo : Geo) (hist : List State) (changed : Bool) (call : Call) → is_changing call ≡ changed → IsAmongStates geo hist changed call → IsAmongStates geo hist (is_changing call) call
+among_as geo hist changed call e h = subst (λ (b : Bool). IsAmongStates geo hist b call) (sym e) h
 
 -- a call is answered with this number, by this reply
 pub record IsCallOf (call : Call) (op : Op) (answer : Reply) (number : ℕ) : Type 0 where
@@ -123,7 +123,7 @@ more_change geo calls hist old new call h answered number_is changed =
     let at_first : state_at (hist ++ new.state ∷ []) 0 ≡ one_tier = get_or_append_left hist (new.state ∷ []) one_tier 0 (omega (arith, h.long)) ∙ h.first in
     let step : Step geo 0 old.state n true call.op new.state call.receipt.reply =
     rw (grant_of_change call.receipt.reply changed) at (as_granted geo 0 old.state n call.op new.state call.receipt.reply (rw (h.geo_is, h.segment_is, h.number_is) at answered.step)) in
-    let stands : Stands geo (hist ++ new.state ∷ []) true call =
+    let among : IsAmongStates geo (hist ++ new.state ∷ []) true call =
     (n, omega (arith, h.long, length_push hist new.state), number_is ∙ raised ∙ zero_front n, rw (at_prior, at_last, zero-add n) step) in
     record {
       geo_is = answered.geo_same ∙ h.geo_is;
@@ -134,9 +134,9 @@ more_change geo calls hist old new call h answered number_is changed =
       number_is = raised ∙ sym counted;
       numbers = ap (map number_of) kept ∙ map-append number_of (filter is_changing calls) (call ∷ []) ∙ ap (λ (xs : List ℕ). xs ++ call.receipt.number ∷ []) h.numbers
           ∙ ap (λ (k : ℕ). range_with_len 1 n ++ k ∷ []) (number_is ∙ raised ∙ one_front n) ∙ sym (range_more 1 n) ∙ ap (range_with_len 1) (sym counted);
-      steps = All-push (λ it. Stands geo (hist ++ new.state ∷ []) (is_changing it) it) calls call
-          (All-weaker (λ it. Stands geo hist (is_changing it) it) (λ it. Stands geo (hist ++ new.state ∷ []) (is_changing it) it) (λ it s. stands_longer geo hist new.state (is_changing it) it s) calls h.steps)
-          (stands_as geo (hist ++ new.state ∷ []) true call changed stands);
+      steps = All-push (λ it. IsAmongStates geo (hist ++ new.state ∷ []) (is_changing it) it) calls call
+          (All-weaker (λ it. IsAmongStates geo hist (is_changing it) it) (λ it. IsAmongStates geo (hist ++ new.state ∷ []) (is_changing it) it) (λ it s. among_longer geo hist new.state (is_changing it) it s) calls h.steps)
+          (among_as geo (hist ++ new.state ∷ []) true call changed among);
       below = All-push (λ it. it.receipt.number ≤ new.number) calls call (All-weaker (λ it. it.receipt.number ≤ old.number) (λ it. it.receipt.number ≤ new.number) (λ it k. omega (arith, k, raised, h.number_is)) calls h.below) (omega (arith, number_is));
       in_order = all_pairs_push KeepsOrder calls call h.in_order (λ k d inside same. (omega (arith, h.below k d inside, number_is, raised, h.number_is), λ e. omega (arith, h.below k d inside, number_is, raised, h.number_is)));
     }
@@ -159,7 +159,7 @@ more_other geo calls hist old new call h answered number_is still =
     let at_last : state_at hist n ≡ old.state = h.last in
     let step : Step geo 0 old.state n (grant_of call.receipt.reply) call.op old.state call.receipt.reply =
     as_granted geo 0 old.state n call.op old.state call.receipt.reply (rw (h.geo_is, h.segment_is, h.number_is, state_same) at answered.step) in
-    let stands : Stands geo hist false call = (n, omega (arith, h.long), number_is ∙ same ∙ sym (zero-add n), rw (at_last, zero-add n) step) in
+    let among : IsAmongStates geo hist false call = (n, omega (arith, h.long), number_is ∙ same ∙ sym (zero-add n), rw (at_last, zero-add n) step) in
     record {
       geo_is = answered.geo_same ∙ h.geo_is;
       segment_is = answered.segment_same ∙ h.segment_is;
@@ -168,24 +168,24 @@ more_other geo calls hist old new call h answered number_is still =
       last = rw counted (at_last ∙ sym state_same);
       number_is = same ∙ sym counted;
       numbers = rw kept h.numbers;
-      steps = All-push (λ it. Stands geo hist (is_changing it) it) calls call h.steps (stands_as geo hist false call still stands);
+      steps = All-push (λ it. IsAmongStates geo hist (is_changing it) it) calls call h.steps (among_as geo hist false call still among);
       below = All-push (λ it. it.receipt.number ≤ new.number) calls call (All-weaker (λ it. it.receipt.number ≤ old.number) (λ it. it.receipt.number ≤ new.number) (λ it k. omega (arith, k, same, h.number_is)) calls h.below) (omega (arith, number_is));
       in_order = all_pairs_push KeepsOrder calls call h.in_order (λ k d inside same'. (omega (arith, h.below k d inside, number_is, same, h.number_is), λ e. absurd (let f : true ≡ false = sym e ∙ still in cc f)));
     }
 
 -- one more call
-pub record More (geo : Geo) (calls : List Call) (now : Segment) : Type 0 where
+pub record HasHistory (geo : Geo) (calls : List Call) (now : Segment) : Type 0 where
   pub hist : List State
   pub history : History geo calls hist now
 
-pub more : (geo : Geo) (calls : List Call) (old new : Segment) (call : Call) → More geo calls old
-    → AnswersOp old new false call.op call.receipt.reply → call.receipt.number ≡ new.number → More geo (calls ++ call ∷ []) new
-more geo calls old new call m answered number_is = elim (cases_Bool (is_changing call)) [
+pub history_more : (geo : Geo) (calls : List Call) (old new : Segment) (call : Call) → HasHistory geo calls old
+    → AnswersOp old new false call.op call.receipt.reply → call.receipt.number ≡ new.number → HasHistory geo (calls ++ call ∷ []) new
+history_more geo calls old new call m answered number_is = elim (cases_Bool (is_changing call)) [
   | inl changed ↦ record { hist = m.hist ++ new.state ∷ []; history = more_change geo calls m.hist old new call m.history answered number_is changed }
   | inr still ↦ record { hist = m.hist; history = more_other geo calls m.hist old new call m.history answered number_is still }
 ]
 
-is_in : (geo : Geo) (hist : List State) (most : ℕ) (changed : Bool) (call : Call) → length hist ≡ most + 1 → Stands geo hist changed call → IsInHistory geo 0 0 (state_at hist) most changed call
+is_in : (geo : Geo) (hist : List State) (most : ℕ) (changed : Bool) (call : Call) → length hist ≡ most + 1 → IsAmongStates geo hist changed call → IsInHistory geo 0 0 (state_at hist) most changed call
 is_in geo hist most true call long h = (h.0, h.2, h.3)
 is_in geo hist most false call long h = (h.0, omega (arith, h.1), h.2, h.3)
 
@@ -194,6 +194,6 @@ pub is_legal : (geo : Geo) (calls : List Call) (hist : List State) (now : Segmen
 is_legal geo calls hist now h = record {
   numbers = subst (λ (ns : List ℕ). IsPermutation (range_with_len (0 + 1) (change_count calls)) ns) (sym h.numbers) (IsPermutation-refl (range_with_len (0 + 1) (change_count calls)));
   begins = h.first;
-  steps = All-weaker (λ it. Stands geo hist (is_changing it) it) (λ it. IsInHistory geo 0 0 (state_at hist) (change_count calls) (is_changing it) it) (λ it s. is_in geo hist (change_count calls) (is_changing it) it h.long s) calls h.steps;
+  steps = All-weaker (λ it. IsAmongStates geo hist (is_changing it) it) (λ it. IsInHistory geo 0 0 (state_at hist) (change_count calls) (is_changing it) it) (λ it s. is_in geo hist (change_count calls) (is_changing it) it h.long s) calls h.steps;
   in_order = h.in_order;
 }

@@ -108,8 +108,8 @@ run_in_range geo place chunk chunks place_below below = omega (arith, tier_withi
 pub chunk_in_range : (geo : Geo) (place chunk : ℕ) → place < geo.tiers → chunk < geo.chunks → chunk_at geo place chunk + geo.chunk_words ≤ words_in_segment geo
 chunk_in_range geo place chunk place_below below = omega (arith, run_in_range geo place chunk 1 place_below (omega arith))
 
--- that the places of a tier's words fit
+-- that the addresses of a tier's words fit
 pub ruleset tier_fits = (tier_within, segment_limit)
 
--- that the places of a chunk's words fit
+-- that the addresses of a chunk's words fit
 pub ruleset chunk_fits = (chunk_in_range, segment_limit)

@@ -1,4 +1,4 @@
--- No word of a segment has two uses.
+-- No word of a segment has two roles.
 use Rattle.std.proofs.Common.{◌≡◌, ◌≢◌, ℕ, ◌+◌, ◌*◌, ◌/◌, ◌<◌, ◌≤◌, ◌⊎◌, ⊎_elim, inl, inr, arith}
 use Rattle.std.proofs.lemmas.Bool.{cases_lt}
 use Rattle.std.proofs.lemmas.Nat.{same_from_place}
@@ -11,7 +11,7 @@ pub same_offset : (geo : Geo) (p q i j : ℕ) → i < words_in_tier geo → j < 
 unfolding tier_at
 same_offset geo p q i j i_below j_below same = same_from_place p i q j (words_in_tier geo) i_below j_below (omega arith)
 
--- ---- the same use
+-- ---- the same role
 
 -- a head word of a tier is one place's
 pub same_tier_head : (geo : Geo) (p q i j : ℕ) → i < 4 → j < 4 → tier_at geo p + i ≡ tier_at geo q + j → (p ≡ q) × (i ≡ j)
@@ -68,7 +68,7 @@ tier_words_apart geo p q i j i_below j_below differ same =
     let both = same_offset geo p q i j i_below j_below same in
     differ both.0
 
--- ---- different words of one use
+-- ---- different words of one role
 
 -- head words of different tiers, or different ones of a tier
 pub tier_heads_apart : (geo : Geo) (p q i j : ℕ) → i < 4 → j < 4 → (p ≡ q → i ≢ j) → tier_at geo p + i ≢ tier_at geo q + j
@@ -97,7 +97,7 @@ runs_apart geo p q c n d m i j c_within d_within i_below j_below apart same =
     let both = same_offset geo p q _ _ one other (omega arith) in
     ⊎_elim (λ before. omega (arith, rows_in_order n geo.chunk_words c d before)) (λ after. omega (arith, rows_in_order m geo.chunk_words d c after)) (apart both.0)
 
--- ---- different uses
+-- ---- different roles
 
 -- a word of bits is no head word of a tier
 pub bits_not_tier_head : (geo : Geo) (p q i j : ℕ) → i < geo.chunks / 64 → j < 4 → bits_at geo p i ≢ tier_at geo q + j

@@ -1,5 +1,5 @@
 -- What a store leaves: a store at one word of a tier leaves every other word of every tier.
--- Each lemma takes the place that is stored at by an equation, so that `grind` can use it where a call gave the place.
+-- Each lemma takes the address that is stored at by an equation, so that `grind` can use it where a call gave the address.
 use Rattle.std.proofs.Common.{◌≡◌, ◌≢◌, ℕ, ◌+◌, ◌*◌, ◌/◌, ◌<◌, ◌≤◌, List, get_or, slice_set, arith, get_or-set_other}
 use Rattle.cm_geo.specs.declared.geo.Geo.{Geo}
 use Rattle.cm_geo.specs.Addresses.{words_in_tier, tier_at, bits_at, slot_at, chunk_at}

@@ -34,7 +34,7 @@ impl Geo {
         4 + place * tier_words(self.chunks, self.chunk_words)
     }
 
-    /// A word of bits of the tier at this place. Bit b of word i tells whether chunk 64 i + b is taken.
+    /// A word of bits of the tier at this place. Bit b of word i is that of chunk 64 i + b.
     #[tactic(auto, using(crate::proofs::AddressOrder::tier_fits), unfolding(crate::specs::Addresses::words_in_tier, crate::specs::Addresses::bits_at))]
     pub fn bits_at(&self, place: u32, word: u32) -> u32
         requires place { place < self.now.tiers }

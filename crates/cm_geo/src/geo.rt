@@ -192,8 +192,8 @@ impl Geo {
         (words + self.chunk_words - 1) >> self.chunk_words.trailing_zeros()
     }
 
-    /// Whether an entry with a key and a value of these lengths in bytes may be stored: the key has 1 to
-    /// 256 bytes, the value at most 4096, and together they take at most 64 chunks.
+    /// Whether an entry with a key and a value of these lengths in bytes may be stored: the key has a
+    /// byte at least, and none of the key, the value and the run is longer than the longest one.
     pub fn fits(&self, key_len: u32, value_len: u32) -> bool
         ensures { IsTrue result ↔ Fits self.now key_len value_len }
     {

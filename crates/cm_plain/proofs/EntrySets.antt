@@ -54,7 +54,7 @@ found_none key (placed ∷ entries) other =
     ] in
     rw fails (found_none key entries (λ it i. other it (inr i)))
 
--- no entry is taken away where none has the key
+-- without a key that no entry has the entries are as they were
 pub without_absent : (key : List ℕ) (entries : List Placed) → ((placed : Placed) → In placed entries → placed.key ≢ key) → without key entries ≡ entries
 without_absent key [] none = refl
 without_absent key (entry ∷ entries) none = elim (key_tells entry.key key) [

@@ -1,4 +1,4 @@
--- Words tell at most one state.
+-- Words represent at most one state.
 use Rattle.std.proofs.Common.{◌≡◌, ℕ, ◌+◌, ◌≤◌, List, [], ◌∷◌, Contains, arith, refl, ap, sym, subst, ◌∙◌, inl, inr}
 use Rattle.std.proofs.lemmas.List.Elements.{All-contains}
 use Rattle.std.proofs.lemmas.Option.{same_Some}
@@ -64,7 +64,7 @@ pub tier_of : (geo : Geo) (segment : ℕ) (words : List ℕ) (state : State) (pl
 tier_of geo segment words state place tells chained =
     All-contains (TierRepresents geo words state) state.chain place tells.tiers (subst (λ (c : List ℕ). Contains c place) tells.chain chained)
 
--- an entry that words tell is told of every state that they tell
+-- an entry of a state that words represent is one of every state that they represent
 represented_too : (geo : Geo) (segment : ℕ) (words : List ℕ) (one other : State) → Represents geo segment words one → Represents geo segment words other → (placed : Placed) → Contains one.entries placed → Contains other.entries placed
 represented_too geo segment words one other tells tells' placed there =
     let point = tells.pointed placed there in

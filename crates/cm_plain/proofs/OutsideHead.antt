@@ -1,4 +1,4 @@
--- Laws of how words stand for a state: they don't depend on the first two words of a segment, the lock word and the change number. Torn
+-- Laws of how words represent a state: they don't depend on the first two words of a segment, the lock word and the change number. Torn
 -- words depend on none of the first four.
 use Rattle.std.proofs.Common.{◌≡◌, ◌≢◌, ℕ, ◌+◌, ◌/◌, ◌<◌, ◌≤◌, List, [], ◌∷◌, get_or, drop, slice_set, arith, length, length-set, refl, ap, sym, ◌∙◌, get_or-set_other, zero, suc, inl, inr}
 use Rattle.std.proofs.lemmas.List.{drop-set-lt}
@@ -106,7 +106,7 @@ pub resting_many : (geo : Geo) (segment : ℕ) (words : List ℕ) (state : State
 unfolding Resting
 resting_many geo segment words state r = r.length_is
 
--- words that rest for a state tell it
+-- words that rest for a state represent it
 pub resting_represents : (geo : Geo) (segment : ℕ) (words : List ℕ) (state : State) → Resting geo segment words state → Represents geo segment words state
 unfolding Resting
 resting_represents geo segment words state r = r.represents

@@ -93,8 +93,8 @@ step_placed seen grant key value room spot op is fits here room_is at counts gra
       change_is = planned_is;
       leads = leads;
     } in
-    let course_is : decision geo state seen.number grant op ≡ changes_state = rw (places.met, places.wanted, room_is, there_is room old spot at, counts, granted) refl in
-    subst (λ (it : Decision). StepAs it geo seen.segment state op (state_with geo state key value room spot) (reply_beside (is_some old))) (sym course_is)
+    let decision_is : decision geo state seen.number grant op ≡ changes_state = rw (places.met, places.wanted, room_is, there_is room old spot at, counts, granted) refl in
+    subst (λ (it : Decision). StepAs it geo seen.segment state op (state_with geo state key value room spot) (reply_beside (is_some old))) (sym decision_is)
     (change, plans, sym later, sym (reply_is room old op key))
 
 -- the segment after a value went to its room
@@ -111,15 +111,15 @@ pub placing_apart : (seen : Segment) (key value : List ℕ) (placement : Placeme
     → IsPlacement seen.geo seen.state key (length value) placement
     → All (λ other. run_start seen.geo other ≢ run_start seen.geo (entry_at key value placement.spot.place placement.spot.chunk)) (without key seen.state.entries)
 placing_apart seen key value placement is fits placed =
-    starts_apart seen.geo seen.segment seen.state key value placement.spot is.rests fits placement.room placed.room_is placed.spot_is
+    starts_apart seen.geo seen.segment seen.state key value placement.spot is.is_state fits placement.room placed.room_is placed.spot_is
 
 -- the segment after a value went to its room is one
 pub is_segment_with : (seen : Segment) (key value : List ℕ) (placement : Placement) → IsSegment seen → Fits seen.geo (length key) (length value)
     → segment_of_key seen.geo key ≡ seen.segment → IsPlacement seen.geo seen.state key (length value) placement → seen.number ≢ last_number
     → IsSegment (segment_with seen key value placement)
 is_segment_with seen key value placement is fits here placed counts = record {
-  rests = placed_state seen.geo seen.segment seen.state key value placement.spot is.rests fits here placement.room placed.room_is placed.spot_is;
-  counted = next_counted is counts;
+  is_state = placed_state seen.geo seen.segment seen.state key value placement.spot is.is_state fits here placement.room placed.room_is placed.spot_is;
+  within_limit = next_counted is counts;
 }
 
 -- the segment that was made is the one with the value
@@ -144,7 +144,7 @@ places_with seen grant key value placement answer is fits here placed counts gra
         geo_same = refl;
         segment_same = refl;
         step = subst (λ (it : Reply). Step seen.geo seen.segment seen.state seen.number grant op (state_with seen.geo seen.state key value placement.room placement.spot) it) (sym replies)
-            (step_placed seen grant key value placement.room placement.spot op is.rests fits here placed.room_is placed.spot_is counts granted places);
+            (step_placed seen grant key value placement.room placement.spot op is.is_state fits here placed.room_is placed.spot_is counts granted places);
         number_is = rw (replies, is_change_beside had) refl;
       };
     }

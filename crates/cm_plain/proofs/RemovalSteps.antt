@@ -1,4 +1,4 @@
--- How taking an entry away is a step of the bounded map.
+-- How the removal of an entry is a step of the bounded map.
 use Rattle.std.proofs.Common.{◌≡◌, ◌≢◌, ℕ, ◌+◌, ◌==◌, Bool, true, false, List, Option, Some, None, refl, sym, subst, inl, inr}
 use Rattle.std.specs.Prelude.{if◌then◌else◌, is_some}
 use Rattle.std.proofs.lemmas.Bool.{cases_Bool}
@@ -28,7 +28,7 @@ no_room geo state (Count segment) e = refl
 no_room geo state (ListAll segment) e = refl
 no_room geo state (Sweep segment prefix) e = refl
 
--- the reply to an entry's going is one to a change
+-- the reply to a removal is one to a change
 pub is_removed : (op : Op) (key : List ℕ) → is_change (reply_of kind.Remove op key) ≡ true
 is_removed (Put key value) changed = refl
 is_removed (Get key) changed = refl
@@ -45,42 +45,42 @@ is_removed (Sweep segment prefix) changed = refl
 abbrev pub state_without : State → List ℕ → State
 state_without state key = record { chain = state.chain; entries = without key state.entries }
 
--- the segment after a key's entry was taken away
+-- the segment after a key's entry was removed
 abbrev pub segment_without : Segment → List ℕ → Segment
 segment_without seen key = record { geo = seen.geo; segment = seen.segment; number = seen.number + 1; state = state_without seen.state key }
 
 -- it is one
 pub is_segment_without : (seen : Segment) (key : List ℕ) → IsSegment seen → seen.number ≢ last_number → IsSegment (segment_without seen key)
 is_segment_without seen key is counts = record {
-  rests = removed_state seen.geo seen.segment seen.state key is.rests;
-  counted = next_counted is counts;
+  is_state = removed_state seen.geo seen.segment seen.state key is.is_state;
+  within_limit = next_counted is counts;
 }
 
--- an entry that was taken away was taken by one step
+-- an entry that was removed was removed by one step
 step_removed : (seen : Segment) (grant : Bool) (key : List ℕ) (op : Op) → IsSegment seen → (seen.number == last_number) ≡ false → IsRemovingOp seen key op
     → Step seen.geo seen.segment seen.state seen.number grant op (state_without seen.state key) (reply_of kind.Remove op key)
 step_removed seen grant key op is counts takes =
     let change = removing_change seen.geo op key (entry_of key seen.state) in
     let plans : Plans seen.geo seen.segment seen.state op change = record {
-      is_state = is.rests;
+      is_state = is.is_state;
       met = takes.met;
-      room = rw (no_room seen.geo seen.state op takes.taken) refl;
+      room = rw (no_room seen.geo seen.state op takes.places_none) refl;
       key = takes.keyed;
-      change_is = rw takes.taken refl;
-      leads = removed_state seen.geo seen.segment seen.state key is.rests;
+      change_is = rw takes.places_none refl;
+      leads = removed_state seen.geo seen.segment seen.state key is.is_state;
     } in
-    let course_is : decision seen.geo seen.state seen.number grant op ≡ changes_state = rw (takes.met, no_room seen.geo seen.state op takes.taken, counts) refl in
-    subst (λ (it : Decision). StepAs it seen.geo seen.segment seen.state op (state_without seen.state key) (reply_of kind.Remove op key)) (sym course_is)
+    let decision_is : decision seen.geo seen.state seen.number grant op ≡ changes_state = rw (takes.met, no_room seen.geo seen.state op takes.places_none, counts) refl in
+    subst (λ (it : Decision). StepAs it seen.geo seen.segment seen.state op (state_without seen.state key) (reply_of kind.Remove op key)) (sym decision_is)
     (change, plans, refl, refl)
 
--- where no number is left, no entry is taken
+-- where no number is left, no entry is removed
 step_worn : (seen : Segment) (grant : Bool) (key : List ℕ) (op : Op) → (seen.number == last_number) ≡ true → IsRemovingOp seen key op
     → Step seen.geo seen.segment seen.state seen.number grant op seen.state (removal_reply false op key)
 step_worn seen grant key op worn takes =
-    let course_is : decision seen.geo seen.state seen.number grant op ≡ is_worn = rw (takes.met, no_room seen.geo seen.state op takes.taken, worn) refl in
-    subst (λ (it : Decision). StepAs it seen.geo seen.segment seen.state op seen.state (removal_reply false op key)) (sym course_is) (refl, refl)
+    let decision_is : decision seen.geo seen.state seen.number grant op ≡ is_worn = rw (takes.met, no_room seen.geo seen.state op takes.places_none, worn) refl in
+    subst (λ (it : Decision). StepAs it seen.geo seen.segment seen.state op seen.state (removal_reply false op key)) (sym decision_is) (refl, refl)
 
--- it answers each operation that takes this key's entry away
+-- it answers each operation that removes this key's entry
 pub removes_without : (seen : Segment) (key : List ℕ) → IsSegment seen → (seen.number == last_number) ≡ false → RemovesKey seen (segment_without seen key) key true
 removes_without seen key is counts = record {
   answers = λ op grant takes. record {
@@ -102,10 +102,10 @@ removes_worn seen key worn = record {
   };
 }
 
--- what is answered to a removal, by whether the entry was taken away
-pub removal_answered : (old new : Segment) (grant : Bool) (key : List ℕ) (taken : Bool) (op : Op) → ((it : Bool) → removal_reply it op key ≡ (if it then reply.Removed else reply.Worn))
-    → IsRemovingOp old key op → RemovesKey old new key taken → AnswersOp old new grant op (if taken then reply.Removed else reply.Worn)
-removal_answered old new grant key taken op same for takes = subst (AnswersOp old new grant op) (same taken) (takes.answers op grant for)
+-- what is answered to a removal, by whether the entry was removed
+pub removal_answered : (old new : Segment) (grant : Bool) (key : List ℕ) (removed : Bool) (op : Op) → ((it : Bool) → removal_reply it op key ≡ (if it then reply.Removed else reply.Worn))
+    → IsRemovingOp old key op → RemovesKey old new key removed → AnswersOp old new grant op (if removed then reply.Removed else reply.Worn)
+removal_answered old new grant key removed op same for takes = subst (AnswersOp old new grant op) (same removed) (takes.answers op grant for)
 
 -- a key that nothing is answered for has an entry
 is_there : (value : Option (List ℕ)) → None ≡ (if is_some value then None else Some reply.Missing) → is_some value ≡ true
@@ -113,10 +113,10 @@ is_there None e = cc e
 is_there (Some value) e = refl
 
 -- what is answered to a removal
-pub remove_answered : (old new : Segment) (grant : Bool) (key : List ℕ) (taken : Bool) → None ≡ (if is_some (value_of key old.state) then None else Some reply.Missing)
-    → RemovesKey old new key taken → AnswersOp old new grant (Remove key) (if taken then reply.Removed else reply.Worn)
-remove_answered old new grant key taken none takes =
-    removal_answered old new grant key taken (Remove key) replies (record { met = is_there (value_of key old.state) none; taken = refl; keyed = refl }) takes
+pub remove_answered : (old new : Segment) (grant : Bool) (key : List ℕ) (removed : Bool) → None ≡ (if is_some (value_of key old.state) then None else Some reply.Missing)
+    → RemovesKey old new key removed → AnswersOp old new grant (Remove key) (if removed then reply.Removed else reply.Worn)
+remove_answered old new grant key removed none takes =
+    removal_answered old new grant key removed (Remove key) replies (record { met = is_there (value_of key old.state) none; places_none = refl; keyed = refl }) takes
   where
     replies : (it : Bool) → removal_reply it (Remove key) key ≡ (if it then reply.Removed else reply.Worn)
     replies true = refl
@@ -130,11 +130,11 @@ is_expected value expected e = elim (cases_Bool (is_value value expected)) [
 ]
 
 -- what is answered to a removal where a value is expected
-pub remove_if_answered : (old new : Segment) (grant : Bool) (key expected : List ℕ) (taken : Bool)
+pub remove_if_answered : (old new : Segment) (grant : Bool) (key expected : List ℕ) (removed : Bool)
     → (let value = value_of key old.state in None ≡ (if is_value value expected then None else Some (unmet_reply value)))
-    → RemovesKey old new key taken → AnswersOp old new grant (RemoveIf key expected) (if taken then reply.Removed else reply.Worn)
-remove_if_answered old new grant key expected taken none takes =
-    removal_answered old new grant key taken (RemoveIf key expected) replies (record { met = is_expected (value_of key old.state) expected none; taken = refl; keyed = refl }) takes
+    → RemovesKey old new key removed → AnswersOp old new grant (RemoveIf key expected) (if removed then reply.Removed else reply.Worn)
+remove_if_answered old new grant key expected removed none takes =
+    removal_answered old new grant key removed (RemoveIf key expected) replies (record { met = is_expected (value_of key old.state) expected none; places_none = refl; keyed = refl }) takes
   where
     replies : (it : Bool) → removal_reply it (RemoveIf key expected) key ≡ (if it then reply.Removed else reply.Worn)
     replies true = refl

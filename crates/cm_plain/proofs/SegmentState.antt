@@ -15,7 +15,7 @@ seen_in inside = record {
 
 -- where a number is left, one more change counts no further than it may
 pub next_counted : {seen : Segment} → IsSegment seen → seen.number ≢ last_number → seen.number + 1 ≤ last_number
-next_counted {seen} is counts = below seen.number last_number is.counted counts
+next_counted {seen} is counts = below seen.number last_number is.within_limit counts
   where
     below : (number last : ℕ) → number ≤ last → number ≢ last → number + 1 ≤ last
     below number last h ne = omega arith

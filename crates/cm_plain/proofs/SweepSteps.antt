@@ -1,4 +1,4 @@
--- How a sweep's step takes the least key with its prefix.
+-- How a sweep's step removes the least key with its prefix.
 use Rattle.std.proofs.Common.{◌≡◌, ◌∙◌, ℕ, Bool, true, false, List, [], ◌∷◌, All, refl, sym, ap, subst, inl, inr}
 use Rattle.std.specs.Prelude.{if◌then◌else◌, is_some}
 use Rattle.std.specs.List.{AllByRecursion, list_any}
@@ -37,24 +37,24 @@ pub sweeps_none : (seen : Segment) (prefix : List ℕ) → All (λ entry. has_pr
 sweeps_none seen prefix none = record {
   answers = λ segment grant.
       let unmet = none_any prefix seen.state.entries (recursion_from_All (λ (entry : Placed). has_prefix prefix entry.key ≡ false) seen.state.entries none) in
-      let course_is : decision seen.geo seen.state seen.number grant (Sweep segment prefix) ≡ no_change = rw unmet refl in
+      let decision_is : decision seen.geo seen.state seen.number grant (Sweep segment prefix) ≡ no_change = rw unmet refl in
       record {
         geo_same = refl;
         segment_same = refl;
-        step = subst (λ (it : Decision). StepAs it seen.geo seen.segment seen.state (Sweep segment prefix) seen.state reply.SweptAll) (sym course_is) (refl, refl);
+        step = subst (λ (it : Decision). StepAs it seen.geo seen.segment seen.state (Sweep segment prefix) seen.state reply.SweptAll) (sym decision_is) (refl, refl);
         number_is = refl;
       };
   least = λ segment. tt;
 }
 
--- the least key with the prefix was taken away, or no number was left
-pub sweeps_one : (old new : Segment) (prefix key : List ℕ) (taken : Bool) → IsLeastKey prefix old.state.entries key → RemovesKey old new key taken
-    → AnswersSweeps old new prefix (if taken then reply.Swept key else reply.Worn)
-sweeps_one old new prefix key taken is takes = record {
+-- the least key with the prefix was removed, or no number was left
+pub sweeps_one : (old new : Segment) (prefix key : List ℕ) (removed : Bool) → IsLeastKey prefix old.state.entries key → RemovesKey old new key removed
+    → AnswersSweeps old new prefix (if removed then reply.Swept key else reply.Worn)
+sweeps_one old new prefix key removed is takes = record {
   answers = λ segment grant.
-      subst (AnswersOp old new grant (Sweep segment prefix)) (replies segment taken)
-      (takes.answers (Sweep segment prefix) grant (record { met = found_any prefix key old.state.entries is.prefixed is.there; taken = refl; keyed = (is.prefixed, is.there) }));
-  least = λ segment. elim taken as (λ it. SweepsLeast old.state (Sweep segment prefix) (if it then reply.Swept key else reply.Worn)) [ true ↦ is.least | false ↦ tt ];
+      subst (AnswersOp old new grant (Sweep segment prefix)) (replies segment removed)
+      (takes.answers (Sweep segment prefix) grant (record { met = found_any prefix key old.state.entries is.prefixed is.there; places_none = refl; keyed = (is.prefixed, is.there) }));
+  least = λ segment. elim removed as (λ it. SweepsLeast old.state (Sweep segment prefix) (if it then reply.Swept key else reply.Worn)) [ true ↦ is.least | false ↦ tt ];
 }
   where
     replies : (segment : ℕ) (it : Bool) → removal_reply it (Sweep segment prefix) key ≡ (if it then reply.Swept key else reply.Worn)

@@ -28,7 +28,7 @@ pub record Change : Type 0 where
   pub new_run : Option Run
   pub link : Bool
 
--- the value that an operation places where it changes something; the others take an entry away
+-- the value that an operation places where it changes something; the others remove an entry
 abbrev pub placed_value : Op → Option (List ℕ)
 placed_value (Put key value) = Some value
 placed_value (PutIfAbsent key value) = Some value
@@ -62,7 +62,7 @@ placing_change geo op key value old room chunks = record {
   link = is_new_tier room;
 }
 
--- the change that takes a key's entry away
+-- the change that removes a key's entry
 abbrev pub removing_change : Geo → Op → List ℕ → Option Placed → Change
 removing_change geo op key old = record {
   op = op;

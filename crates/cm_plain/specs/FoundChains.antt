@@ -10,7 +10,7 @@ pub record FoundChain : Type 0 where
   pub places : List ℕ
   pub cut : Bool
 
--- on from a place, behind those that came before it, for at most so many links more
+-- the chain on from a place, behind those that came before it, for at most so many links more
 abbrev pub chain_from : ℕ → Geo → List ℕ → List ℕ → ℕ → FoundChain
 chain_from zero geo words places place = record { places = places; cut = false }
 chain_from (suc links) geo words places place =

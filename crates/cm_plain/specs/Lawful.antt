@@ -1,4 +1,4 @@
--- How the words of a segment stand for a state while no change is under way (own; the slot law is after Chronicle Map).
+-- How the words of a segment represent a state while no change is under way (own; the slot law is after Chronicle Map).
 use Rattle.std.specs.Prelude.{ℕ, ◌≡◌, ◌≢◌, ◌+◌, ◌-◌, ◌*◌, ◌/◌, ◌%◌, ◌^◌, ◌<◌, ◌≤◌, ◌==◌, ◌↔◌, false, List, length, filter, All, Contains, IsBitSet, Some, None}
 use Rattle.cm_geo.specs.declared.geo.Geo.{Geo}
 use Rattle.cm_geo.specs.declared.limits.TheConstants.{WORD_BITS}
@@ -87,20 +87,20 @@ pub record EndsHead (geo : Geo) (words : List ℕ) (place : ℕ) : Type 0 where
   pub third : word_at words (tier_at geo place + 2) ≡ 0
   pub fourth : word_at words (tier_at geo place + 3) ≡ 0
 
--- the words of a segment, as many as it has, stand for a state, apart from the lock word and the change number
+-- the words of a segment, as many as it has, represent a state, apart from the lock word and the change number
 pub record LawfulApart (geo : Geo) (segment : ℕ) (words : List ℕ) (state : State) : Type 0 where
   pub length_is : length words ≡ words_in_segment geo
   pub fourth : word_at words 3 ≡ 0
   pub heads : All (EndsHead geo words) state.chain
   pub represents : Represents geo segment words state
 
--- the words of a quiet segment after so many changes stand for a state
+-- the words of a quiet segment after so many changes represent a state
 pub record Lawful (geo : Geo) (segment : ℕ) (words : List ℕ) (number : ℕ) (state : State) : Type 0 where
   pub lock : word_at words 0 ≡ 0
   pub number_is : word_at words 1 ≡ 2 * number
   pub number_few : number ≤ last_number
   pub apart : LawfulApart geo segment words state
 
--- the words of a segment in use stand for a state while no change is under way
+-- the words of a segment in use represent a state while no change is under way
 unfoldable pub Resting : Geo → ℕ → List ℕ → State → Type 0
 Resting geo segment words state = LawfulApart geo segment words state

@@ -1,4 +1,4 @@
--- The change that a plan of the program tells (own). A plan borrows its bytes; a change has lists.
+-- The change of a plan of the program (own). A plan borrows its bytes; a change has lists.
 use Rattle.std.specs.Prelude.{◌≤◌, length}
 use Rattle.cm_geo.specs.declared.limits.TheConstants.{MAX_KEY_BYTES, MAX_VALUE_BYTES}
 use Rattle.cm_plain.specs.declared.op.Op.{Op}
@@ -21,7 +21,7 @@ op_of_ask (Count segment) = op.Count segment
 op_of_ask (ListAll segment) = op.List segment
 op_of_ask (Sweep segment prefix) = op.Sweep segment prefix.now
 
--- the change of a plan; the slot that points to the old run is told of the words, and not of a state
+-- the change of a plan; the slot that points to the old run is a fact of the words, and of no state
 abbrev pub plan_change : Plan → Change
 plan_change plan = record {
   op = op_of_ask plan.ask;

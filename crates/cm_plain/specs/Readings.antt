@@ -33,7 +33,7 @@ value_len head = head / 2 ^ 32
 abbrev pub bytes_at : Geo → List ℕ → ℕ → ℕ → ℕ → ℕ → List ℕ
 bytes_at geo words place chunk from count = bytes_of (take count (drop (chunk_at geo place chunk + 2 + from) words))
 
--- the bytes of the key's words and of the value's, as the first word tells their lengths
+-- the bytes of the key's words and of the value's, with the lengths that the first word gives
 abbrev pub key_bytes : Geo → List ℕ → ℕ → ℕ → ℕ → List ℕ
 key_bytes geo words place chunk head = bytes_at geo words place chunk 0 (parts_for 8 (key_len head))
 
@@ -86,6 +86,6 @@ HasEntry geo words place chunk key value = reading_at geo words place chunk ≡ 
 abbrev pub Stands : Geo → List ℕ → Placed → Type 0
 Stands geo words placed = HasEntry geo words placed.place placed.chunk placed.key placed.value
 
--- the key's words stand at a chunk, whatever the first word tells
+-- the key's words stand at a chunk, whatever the first word gives
 abbrev pub HasKeyWords : Geo → List ℕ → ℕ → ℕ → List ℕ → Type 0
 HasKeyWords geo words place chunk key = bytes_at geo words place chunk 0 (parts_for 8 (length key)) ≡ padded key

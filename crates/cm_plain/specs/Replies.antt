@@ -1,10 +1,10 @@
--- The reply that a borrowed answer tells (own). A borrowed answer is one that changes nothing.
+-- The reply of an answer that borrows its bytes (own). Such an answer leaves the segment as it is.
 use Rattle.cm_plain.specs.declared.heard.Heard.{Heard}
 use Rattle.cm_plain.specs.declared.heard.Heard.TheVariants.{Kept, Missing, Differs, Value, FullChain, FullSpent, Worn, Count, Pairs, SweptAll}
 use Rattle.cm_plain.specs.declared.reply.Reply.{Reply}
 use Rattle.cm_plain.specs.declared.reply.Reply.TheVariants as reply
 
--- the reply that was heard
+-- the reply of such an answer
 abbrev pub reply_of_heard : Heard → Reply
 reply_of_heard (Kept value) = reply.Kept value.now
 reply_of_heard Missing = reply.Missing

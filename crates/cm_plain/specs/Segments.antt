@@ -24,8 +24,8 @@ pub record Segment : Type 0 where
 
 -- the state is one, and the number counts no further than it may
 pub record IsSegment (seen : Segment) : Type 0 where
-  pub rests : IsState seen.geo seen.segment seen.state
-  pub counted : seen.number ≤ last_number
+  pub is_state : IsState seen.geo seen.segment seen.state
+  pub within_limit : seen.number ≤ last_number
 
 -- an operation was answered by one step of the bounded map; a change takes the next number
 pub record AnswersOp (old new : Segment) (grant : Bool) (op : Op) (answer : Reply) : Type 0 where
@@ -45,20 +45,20 @@ pub record IsPlacingOp (seen : Segment) (key value : List ℕ) (op : Op) : Type 
 pub record PlacesValue (old new : Segment) (grant : Bool) (key value : List ℕ) (answer : Reply) : Type 0 where
   pub answers : (op : Op) → IsPlacingOp old key value op → AnswersOp old new grant op answer
 
--- an operation takes this key's entry away
+-- an operation removes this key's entry
 pub record IsRemovingOp (seen : Segment) (key : List ℕ) (op : Op) : Type 0 where
   pub met : would_change op seen.state ≡ true
-  pub taken : placed_value op ≡ None
+  pub places_none : placed_value op ≡ None
   pub keyed : ChangesKey op seen.state key
 
--- the reply to an operation that takes a key's entry away, or whose change can't be counted any more
+-- the reply to an operation that removes a key's entry, or whose change can't be counted any more
 abbrev pub removal_reply : Bool → Op → List ℕ → Reply
 removal_reply true op key = reply_of kind.Remove op key
 removal_reply false op key = reply.Worn
 
--- each operation that takes this key's entry away was answered; none of them needs a grant
-pub record RemovesKey (old new : Segment) (key : List ℕ) (taken : Bool) : Type 0 where
-  pub answers : (op : Op) (grant : Bool) → IsRemovingOp old key op → AnswersOp old new grant op (removal_reply taken op key)
+-- each operation that removes this key's entry was answered; none of them needs a grant
+pub record RemovesKey (old new : Segment) (key : List ℕ) (removed : Bool) : Type 0 where
+  pub answers : (op : Op) (grant : Bool) → IsRemovingOp old key op → AnswersOp old new grant op (removal_reply removed op key)
 
 -- no key with the prefix is below this one in byte order
 abbrev pub IsLeast : List ℕ → List Placed → List ℕ → Type 0
@@ -70,12 +70,12 @@ pub record IsLeastKey (prefix : List ℕ) (entries : List Placed) (key : List �
   pub prefixed : has_prefix prefix key ≡ true
   pub least : IsLeast prefix entries key
 
--- a key that a sweep takes is the least one with its prefix
+-- a key that a sweep removes is the least one with its prefix
 abbrev pub SweepsLeast : State → Op → Reply → Type 0
 SweepsLeast state (Sweep segment prefix) (reply.Swept key) = IsLeast prefix state.entries key
 SweepsLeast state op answer = Unit {0}
 
--- a sweep was answered, whatever segment it names; it needs no grant
+-- each sweep with the prefix was answered, whatever segment it names; it needs no grant
 pub record AnswersSweeps (old new : Segment) (prefix : List ℕ) (answer : Reply) : Type 0 where
   pub answers : (segment : ℕ) (grant : Bool) → AnswersOp old new grant (Sweep segment prefix) answer
   pub least : (segment : ℕ) → SweepsLeast old.state (Sweep segment prefix) answer

@@ -83,6 +83,6 @@ pub record ListsEntries (entries : List Placed) (pairs : List Pair) : Type 0 whe
   pub all : IsPermutation (map pair_of entries) pairs
   pub in_order : IsSortedByKey (λ pair. pair.key) (slice_cmp nat_cmp) pairs
 
--- the pairs are the contents of the state; places are forgotten
+-- the pairs are the contents of the state, without its places
 abbrev pub Lists : State → List Pair → Type 0
 Lists state pairs = ListsEntries state.entries pairs

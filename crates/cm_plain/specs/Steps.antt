@@ -46,7 +46,7 @@ would_change (Count segment) state = false
 would_change (ListAll segment) state = false
 would_change (Sweep segment prefix) state = list_any (λ entry. has_prefix prefix entry.key) state.entries
 
--- the answer that tells a key's value, or that it isn't there
+-- the answer with a key's value, or that it isn't there
 abbrev pub value_reply : Option (List ℕ) → Reply
 value_reply None = reply.Missing
 value_reply (Some value) = reply.Value value
@@ -74,7 +74,7 @@ AnswersUnchanged (Count segment) state answer = answer ≡ reply.Count (length s
 AnswersUnchanged (ListAll segment) state answer = (pairs : List Pair) × Lists state pairs × (answer ≡ reply.Pairs pairs)
 AnswersUnchanged (Sweep segment prefix) state answer = answer ≡ reply.SweptAll
 
--- the key that an operation changes; a sweep takes any one key with its prefix
+-- the key that an operation changes; a sweep removes any one key with its prefix
 abbrev pub ChangesKey : Op → State → List ℕ → Type 0
 ChangesKey (Put key value) state changed = changed ≡ key
 ChangesKey (Get key) state changed = ⊥
@@ -130,7 +130,7 @@ decision_in room number grant =
 abbrev pub decision : Geo → State → ℕ → Bool → Op → Decision
 decision geo state number grant op = if would_change op state then decision_in (room_wanted geo state op) number grant else no_change
 
--- what a course leads to: the state after it, and the reply
+-- what a decision leads to: the state after it, and the reply
 abbrev pub StepAs : Decision → Geo → ℕ → State → Op → State → Reply → Type 0
 StepAs no_change geo segment state op later answer = (later ≡ state) × AnswersUnchanged op state answer
 StepAs is_full geo segment state op later answer = (later ≡ state) × (answer ≡ reply.FullChain)

@@ -59,7 +59,7 @@ pub record Torn (geo : Geo) (words : List ℕ) (state : State) (change : Change)
   -- each slot of a chained tier that isn't empty is another entry's or the change's
   pub slots : (place number : ℕ) (slot : Slot) → Contains (chain_of geo words).places place → number < 2 * geo.chunks → slot_in geo words place number ≡ Some slot
       → IsOtherSlot geo state change place slot ⊎ IsChangeSlot geo change place slot
-  -- what a slot points to is whole: the old entry, unless its value is replaced in place, and a new one apart from it
+  -- what a slot points to stands: the old entry, unless its value is replaced in place, and a new one apart from it
   pub old_stands : (placed : Placed) → IsChangeEntry state change placed → (change.kind ≢ kind.InPlace) → IsPointedInChain geo words placed → Stands geo words placed
   pub new_stands : (placed : Placed) → IsChangeEntry (after geo change state) change placed
       → (BeginsAt change.old_run placed.place placed.chunk → ⊥) → IsPointedInChain geo words placed → Stands geo words placed

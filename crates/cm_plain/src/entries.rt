@@ -17,7 +17,7 @@ fn run_start(geo: &Geo, entry: &Placed) -> u64
     place * u64::from(geo.chunks()) + chunk
 }
 
-/// Takes a key's entry away.
+/// Removes a key's entry.
 pub fn remove_key(entries: &mut Vec<Placed>, key: &[u8])
     ensures items { entries.new.items ≡ without key.now entries.old.items }
     ensures len { vec_len entries.new ≤ vec_len entries.old }
@@ -47,8 +47,8 @@ fn insert_entry(geo: &Geo, entries: &mut Vec<Placed>, entry: Placed)
     entries.insert(at, entry).unwrap();
 }
 
-/// Puts an entry in place of its key's old one and, where it links its tier, the tier's place at the end of
-/// the chain. Takes memory; after NoMemory nothing changed.
+/// Puts an entry in place of its key's old one and, where it links its tier, the tier's place at the
+/// end of the chain. Takes memory; after NoMemory nothing changed.
 pub fn put_entry(
     geo: &Geo,
     chain: &mut Vec<u32>,

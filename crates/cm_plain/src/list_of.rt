@@ -5,7 +5,8 @@ ghost use Rattle.std.specs.Prelude.{◌≡◌, List};
 use crate::stop::NoMemory;
 use std::marker::Model;
 
-/// A `Vec` that contracts see as the list of its items, so that two of them are compared by their items.
+/// A `Vec` that contracts see as the list of its items, so that two of them are compared by their
+/// items.
 #[derive(Drop, Debug)]
 pub struct ListOf<T> {
     items: Vec<T>,

@@ -17,7 +17,7 @@ pub enum PlanKind {
     InPlace,
     /// The new entry stands elsewhere than the old one.
     Relocate,
-    /// The entry is taken away.
+    /// The entry is removed.
     Remove,
 }
 

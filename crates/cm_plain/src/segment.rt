@@ -60,13 +60,13 @@ impl PlainSegment {
         })
     }
 
-    /// Answers an operation by one step of the bounded map, with or without the grant of a further tier.
-    /// A sweep takes one step, which removes the least key with its prefix in byte order.
+    /// Answers an operation by one step of the bounded map, with or without the grant of a further
+    /// tier. A sweep takes one step, which removes the least key with its prefix in byte order.
     ///
     /// The operation keeps the limits of the geometry, and its key, or the number that it names, is of
-    /// this segment. A change takes the next number. Where a change would be made and can't be, the reply
-    /// is the first of FullChain, Worn and FullSpent that applies, and nothing changed. Takes memory:
-    /// NoMemory where none is left, and no other error; after it nothing changed.
+    /// this segment. A change takes the next number. Where a change would be made and can't be, the
+    /// reply is the first of FullChain, Worn and FullSpent that applies, and nothing changed. Takes
+    /// memory: NoMemory where none is left, and no other error; after it nothing changed.
     pub fn answer(&mut self, alloc: Global, op: &Op, grant: bool) -> Result<Reply, NoMemory>
         requires limits { KeepsLimits self.old.geo op.now }
         requires here { segment_of self.old.geo op.now ≡ self.old.segment }
@@ -129,7 +129,7 @@ impl PlainSegment {
         (self.chain.len() - 1) as u32
     }
 
-    /// Takes away the entry of the least key with a prefix. Takes memory, before anything changes.
+    /// Removes the entry of the least key with a prefix. Takes memory, before anything changes.
     fn sweep(&mut self, alloc: Global, prefix: &[u8]) -> Result<Reply, NoMemory>
         ensures ok { IfOk result (AnswersSweeps self.old self.new prefix.now) }
         ensures err { OnErr result (self.new ≡ self.old) }
@@ -145,7 +145,7 @@ impl PlainSegment {
         })
     }
 
-    /// Takes a key's entry away; false where the segment took as many changes as it can count.
+    /// Removes a key's entry; false where the segment took as many changes as it can count.
     fn remove_entry(&mut self, key: &[u8]) -> bool
         ensures { RemovesKey self.old self.new key.now result }
     {
@@ -157,7 +157,8 @@ impl PlainSegment {
         true
     }
 
-    /// Places a value for a key, or answers why it can't be placed. Takes memory, before anything changes.
+    /// Places a value for a key, or answers why it can't be placed. Takes memory, before anything
+    /// changes.
     fn put_value(
         &mut self,
         alloc: Global,

@@ -13,13 +13,13 @@ use Rattle.cm_plain.specs.Readings.{HasKeyWords, bytes_at, checksum, entry, entr
 use Rattle.cm_plain.proofs.Padding.{padded_is, whole_words}
 use Rattle.cm_plain.proofs.EntryWords.{checksum_same, value_size}
 
--- what the first word tells
-record TellsLengths (head : ℕ) (key value : List ℕ) : Type 0 where
+-- the lengths that the first word gives
+record HasLengths (head : ℕ) (key value : List ℕ) : Type 0 where
   key_is : key_len head ≡ length key
   value_is : value_len head ≡ length value
 
-tells_lengths : (head : ℕ) (key value : List ℕ) → length key ≤ MAX_KEY_BYTES → head ≡ head_of key value → TellsLengths head key value
-tells_lengths head key value short e = record { key_is = low head (length key) (length value) short e; value_is = high head (length key) (length value) short e }
+has_lengths : (head : ℕ) (key value : List ℕ) → length key ≤ MAX_KEY_BYTES → head ≡ head_of key value → HasLengths head key value
+has_lengths head key value short e = record { key_is = low head (length key) (length value) short e; value_is = high head (length key) (length value) short e }
   where
     low : (head key value : ℕ) → key ≤ MAX_KEY_BYTES → head ≡ key + 2 ^ 32 * value → head % 2 ^ 32 ≡ key
     low head key value h e = omega arith
@@ -28,7 +28,7 @@ tells_lengths head key value short e = record { key_is = low head (length key) (
     high head key value h e = omega arith
 
 -- such lengths may be stored
-fits_there : (geo : Geo) (chunk head : ℕ) (key value : List ℕ) → TellsLengths head key value → Fits geo (length key) (length value) → chunk + need geo (length key) (length value) ≤ geo.chunks
+fits_there : (geo : Geo) (chunk head : ℕ) (key value : List ℕ) → HasLengths head key value → Fits geo (length key) (length value) → chunk + need geo (length key) (length value) ≤ geo.chunks
     → lengths_fit geo chunk head ≡ true
 fits_there geo chunk head key value tells fits inside =
     rw (tells.key_is, tells.value_is) (all_of (length key) (length value) (need geo (length key) (length value)) chunk geo.chunks fits.key_nonempty fits.key_short fits.value_short fits.run_short inside)
@@ -37,7 +37,7 @@ fits_there geo chunk head key value tells fits inside =
         → (nat_le 1 key && (nat_le key MAX_KEY_BYTES && (nat_le value MAX_VALUE_BYTES && (nat_le need MAX_RUN_CHUNKS && nat_le (chunk + need) chunks)))) ≡ true
     all_of key value need chunk chunks a b c d e = grind (arith, nat_tests)
 
--- what is read there: a wrong checksum or padding, or the key and a value as long as the first word tells, with the checksum that stands there
+-- what is read there: a wrong checksum or padding, or the key and a value as long as the first word says, with the checksum that stands there
 pub data ReadsKey (geo : Geo) (words : List ℕ) (place chunk : ℕ) (key value : List ℕ) : Type 0 where
   bad_checksum : reading_at geo words place chunk ≡ wrong_checksum → ReadsKey geo words place chunk key value
   bad_padding : reading_at geo words place chunk ≡ wrong_padding → ReadsKey geo words place chunk key value
@@ -64,7 +64,7 @@ tested geo chunk head stored_checksum key value fit = elim (eqb_tells (checksum 
 ]
 
 -- where both pass, there is an entry
-good_there : (geo : Geo) (words : List ℕ) (place chunk head : ℕ) (key value key_found value_found : List ℕ) → TellsLengths head key value → head ≡ head_of key value
+good_there : (geo : Geo) (words : List ℕ) (place chunk head : ℕ) (key value key_found value_found : List ℕ) → HasLengths head key value → head ≡ head_of key value
     → key_found ≡ padded key → length value_found ≡ 8 * parts_for 8 (value_len head) → is_padded (value_len head) value_found ≡ true
     → reading_at geo words place chunk ≡ entry (record { key = take (key_len head) key_found; value = take (value_len head) value_found })
     → checksum head key_found value_found ≡ word_at words (chunk_at geo place chunk + 1) → ReadsKey geo words place chunk key value
@@ -78,7 +78,7 @@ good_there geo words place chunk head key value key_found value_found tells head
     let stored_checksum : entry_checksum key it ≡ checksum head key_found value_found = checksum_same (head_of key it) head (padded key) key_found (padded it) value_found (sym head_it) (sym key_words) (sym value_words) in
     good it (subst (λ (k : List ℕ). reading_at geo words place chunk ≡ entry (record { key = k; value = it })) key_is reads) long (stored_checksum ∙ sum_is)
 
--- what is read where the first word tells the lengths of a key and a value, and the key's words are there
+-- what is read where the first word gives the lengths of a key and a value, and the key's words are there
 pub reads_key : (geo : Geo) (words : List ℕ) (place chunk : ℕ) (key value : List ℕ) → length words ≡ words_in_segment geo → place < geo.tiers → Fits geo (length key) (length value)
     → chunk + need geo (length key) (length value) ≤ geo.chunks → word_at words (chunk_at geo place chunk) ≡ head_of key value → HasKeyWords geo words place chunk key
     → ReadsKey geo words place chunk key value
@@ -87,7 +87,7 @@ reads_key geo words place chunk key value length_is low fits inside head_is has_
     let head : ℕ = word_at words (chunk_at geo place chunk) in
     let key_found : List ℕ = key_bytes geo words place chunk head in
     let value_found : List ℕ = value_bytes geo words place chunk head in
-    let tells = tells_lengths head key value fits.key_short head_is in
+    let tells = has_lengths head key value fits.key_short head_is in
     let inside' : chunk + need geo (key_len head) (value_len head) ≤ geo.chunks = rw (tells.key_is, tells.value_is) inside in
     let key_words : key_found ≡ padded key = ap (λ (n : ℕ). bytes_at geo words place chunk 0 (parts_for 8 n)) tells.key_is ∙ has_key in
     elim (tested geo chunk head (word_at words (chunk_at geo place chunk + 1)) key_found value_found (fits_there geo chunk head key value tells fits inside)) [

@@ -1,4 +1,4 @@
--- Of words that stand for a state that state is kept, and nothing is dropped.
+-- Of words that represent a state that state is kept, and nothing is dropped.
 use Rattle.std.proofs.Common.{◌≡◌, ◌≢◌, ℕ, List, [], Some, refl, ap, sym, subst, ◌∙◌, inl, inr}
 use Rattle.std.specs.List.{AllByRecursion}
 use Rattle.std.proofs.lemmas.List.Elements.{recursion_from_All}
@@ -104,7 +104,7 @@ keeps_all geo segment words state tells =
         let same : has.placed ≡ placed = same_in state.entries has.placed placed (each_differs tells.is_state) may i has.key_is in
         subst (λ (p : Placed). In p later.entries) same has.is_in
 
--- the law of words that stand for a state
+-- the law of words that represent a state
 pub keeps_states : (geo : Geo) (words_of : ℕ → List ℕ) → KeepsAllowance geo words_of → KeepsStates geo words_of
 unfolding kept_in
 keeps_states geo words_of keeps segment state below lawful =

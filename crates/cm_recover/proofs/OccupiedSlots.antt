@@ -1,4 +1,4 @@
--- Which slots are gone through.
+-- Which slots recovery visits.
 use Rattle.std.proofs.Common.{◌≡◌, ◌≢◌, ℕ, ◌*◌, ◌<◌, ◌⊎◌, List, Option, Some, None, refl, ap, sym, subst, ◌∙◌, arith, inl, inr}
 use Rattle.std.specs.List.{range_with_len}
 use Rattle.std.specs.Option.{option_map}
@@ -42,7 +42,7 @@ in_tier geo words place at i =
     let is = mapped_from (occupied_at geo words place) (range_with_len 0 (2 * geo.chunks)) at i in
     (is.from, omega (arith, (range_from 0 (2 * geo.chunks) is.from is.is_in).1), is_here geo words place is.from at is.gives)
 
--- each slot that is gone through stands there
+-- each slot that is visited stands there
 pub occupied_from : (geo : Geo) (words : List ℕ) (at : OccupiedSlot) → In at (occupied_slots geo words) → StandsIn geo words at
 unfolding occupied_slots
 occupied_from geo words at i =
@@ -54,7 +54,7 @@ occupied_from geo words at i =
       slot_is = here.2.slot_is;
     }
 
--- and each that stands there is gone through
+-- and each that stands there is visited
 pub occupied_to : (geo : Geo) (words : List ℕ) (place number : ℕ) (slot : Slot) → In place (chain_of geo words).places → number < 2 * geo.chunks → slot_in geo words place number ≡ Some slot
     → In (record { place = place; number = number; slot = slot }) (occupied_slots geo words)
 unfolding occupied_slots
@@ -68,7 +68,7 @@ occupied_to geo words place number slot chained inside e =
 abbrev pub IsElsewhere : OccupiedSlot → OccupiedSlot → Type 0
 IsElsewhere at other = (at.place ≢ other.place) ⊎ (at.number ≢ other.number)
 
--- each is gone through once
+-- each is visited once
 pub occupied_once : (geo : Geo) (words : List ℕ) → Pairs (λ place other. place ≢ other) (chain_of geo words).places → Pairs IsElsewhere (occupied_slots geo words)
 unfolding occupied_slots
 occupied_once geo words differ =

@@ -63,7 +63,7 @@ tiers_left geo old segment =
 keeps_allowance : (geo : Geo) (old new : ℕ → List ℕ) → Recovered geo old new → KeepsAllowance geo new
 keeps_allowance geo old new recovered =
     (are_within (λ s. length (chain_of geo (new s)).places - 1) (λ s. length (chain_of geo (old s)).places - 1) geo.extra geo.segments (λ s below.
-    (let chain : (chain_of geo (new s)).places ≡ allowed_places geo old s = (recovered.stand s below).apart.represents.chain in
+    (let chain : (chain_of geo (new s)).places ≡ allowed_places geo old s = (recovered.lawful s below).apart.represents.chain in
     let len : length (chain_of geo (new s)).places ≡ length (allowed_places geo old s) = ap (λ (l : List ℕ). length l) chain in
     let left = tiers_left geo old s in
     record { of_it = rw len left.0; left = rw len left.1 }))).within_limit
@@ -71,4 +71,4 @@ keeps_allowance geo old new recovered =
 pub keeps_recovered : (geo : Geo) (old new : ℕ → List ℕ) → Recovered geo old new → KeepsRecovered geo old new
 keeps_recovered geo old new recovered =
     let keeps = keeps_allowance geo old new recovered in
-    record { allowance = keeps; same = λ segment below. keeps_states geo new keeps segment (kept_state geo old segment) below (recovered.stand segment below).apart }
+    record { allowance = keeps; same = λ segment below. keeps_states geo new keeps segment (kept_state geo old segment) below (recovered.lawful segment below).apart }

@@ -1,4 +1,4 @@
--- Words into which a first entry is written are torn for its put. Words in which nothing was written are such words, and stand for one empty tier.
+-- Words into which a first entry is written are torn for its put. Words in which nothing was written are such words, and represent one empty tier.
 use Rattle.std.proofs.Common.{◌≡◌, ℕ, ◌*◌, subst, ◌+◌, ◌-◌, ◌/◌, ◌%◌, ◌<◌, ◌≤◌, ◌^◌, Bool, true, false, Some, None, List, [], ◌∷◌, find, length, nat_le, replicate, bit_and, refl, sym, ◌∙◌, arith, zero, suc, inl, inr}
 use Rattle.std.specs.List.{Contains, range_with_len, sum_by}
 use Rattle.std.proofs.lemmas.Bool.{cases_lt}
@@ -110,8 +110,8 @@ zeros_represent geo segment = record {
   unlinked = λ place inside out offset below. all_zero (words_in_segment geo) (tier_at geo place + offset);
 }
 
-zeros_stand : (geo : Geo) (segment : ℕ) → LawfulApart geo segment (zeros geo segment) one_tier
-zeros_stand geo segment = record {
+zeros_lawful : (geo : Geo) (segment : ℕ) → LawfulApart geo segment (zeros geo segment) one_tier
+zeros_lawful geo segment = record {
   length_is = length-replicate (words_in_segment geo) 0;
   fourth = all_zero (words_in_segment geo) 3;
   heads = All-from_recursion (EndsHead geo (zeros geo segment)) (0 ∷ [])
@@ -220,6 +220,6 @@ zeros_written geo segment key value = record {
 pub zeros_are_torn : (geo : Geo) → ZerosAreTorn geo
 zeros_are_torn geo = record {
   allowance = rw (no_extra geo geo.segments 0) (omega arith);
-  stand = zeros_stand geo;
+  lawful_apart = zeros_lawful geo;
   torn = λ key value fits. first_written_is_torn geo (zeros geo (segment_of_key geo key)) key value fits (zeros_written geo (segment_of_key geo key) key value);
 }

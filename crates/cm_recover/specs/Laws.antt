@@ -39,7 +39,7 @@ KeepsOutcomes geo words_of =
     (segment : ℕ) (state : State) (op : Op) (change : Change) → segment < geo.segments
     → IsTorn geo segment (words_of segment) state op change → KeepsOutcome geo words_of segment state change
 
--- what is kept of words that stand for a state is that state, and nothing is dropped
+-- what is kept of words that represent a state is that state, and nothing is dropped
 pub record KeepsState (geo : Geo) (words_of : ℕ → List ℕ) (segment : ℕ) (state : State) : Type 0 where
   pub state_is : kept_state geo words_of segment ≡ state
   pub no_drops : (kept_in geo words_of segment).drops ≡ []

@@ -1,4 +1,4 @@
--- The slots of a segment that aren't empty, in the order in which they are gone through (own).
+-- The slots of a segment that aren't empty, in the order in which recovery visits them (own).
 use Rattle.std.specs.Prelude.{ℕ, ◌*◌, List, Option}
 use Rattle.std.specs.List.{filter_map, flat_map, range_with_len}
 use Rattle.std.specs.Option.{option_map}

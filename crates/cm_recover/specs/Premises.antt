@@ -44,9 +44,9 @@ FirstWrittenIsTorn geo =
 abbrev pub zeros : Geo → ℕ → List ℕ
 zeros geo segment = replicate (words_in_segment geo) 0
 
--- they keep the allowance, stand for one empty tier in each segment, and are torn for each put of a key that may be stored there
+-- they keep the allowance, represent one empty tier in each segment, and are torn for each put of a key that may be stored there
 pub record ZerosAreTorn (geo : Geo) : Type 0 where
   pub allowance : KeepsAllowance geo (zeros geo)
-  pub stand : (segment : ℕ) → LawfulApart geo segment (zeros geo segment) one_tier
+  pub lawful_apart : (segment : ℕ) → LawfulApart geo segment (zeros geo segment) one_tier
   pub torn : (key value : List ℕ) → Fits geo (length key) (length value)
       → IsTorn geo (segment_of_key geo key) (zeros geo (segment_of_key geo key)) one_tier (Put key value) (planned_change geo one_tier (Put key value) key)

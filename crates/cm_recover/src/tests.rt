@@ -80,14 +80,14 @@ const WITH_Z: [(At, u64); 7] = [
 
 /// A change of some words, with its stores in their order.
 #[derive(Clone, Copy)]
-struct Tried<'a> {
+struct Trial<'a> {
     tiers: u32,
     first: &'a [(At, u64)],
     change: Change<'a>,
     stores: &'a [(At, u64)],
 }
 
-impl Tried<'_> {
+impl Trial<'_> {
     /// The words before the change.
     fn segment(&self, alloc: Global) -> Result<Segment, Fail> {
         let geo = Geo::new(1, self.tiers, 64, 4, self.tiers.saturating_sub(1))?;
@@ -113,8 +113,8 @@ fn entries_with<'a>(
 }
 
 // bbba goes to the first empty slot behind its home, and to the first free chunk.
-fn fresh_put() -> Tried<'static> {
-    Tried {
+fn fresh_put() -> Trial<'static> {
+    Trial {
         tiers: 1,
         first: &WITH_BBA,
         change: Change {
@@ -143,8 +143,8 @@ fn fresh_put() -> Tried<'static> {
 }
 
 // The chunk behind bba is free, so its longer value stays.
-fn longer_in_place() -> Tried<'static> {
-    Tried {
+fn longer_in_place() -> Trial<'static> {
+    Trial {
         tiers: 1,
         first: &WITH_BBA,
         change: Change {
@@ -168,8 +168,8 @@ fn longer_in_place() -> Tried<'static> {
 }
 
 // The chunk behind a is taken, so its longer value goes behind all others.
-fn move_in_a_tier() -> Tried<'static> {
-    Tried {
+fn move_in_a_tier() -> Trial<'static> {
+    Trial {
         tiers: 1,
         first: &WITH_BBA,
         change: Change {
@@ -197,8 +197,8 @@ fn move_in_a_tier() -> Tried<'static> {
 }
 
 // The tier is full, so a's longer value goes to a tier that is linked, and ba's slot to a's.
-fn move_to_a_new_tier() -> Tried<'static> {
-    Tried {
+fn move_to_a_new_tier() -> Trial<'static> {
+    Trial {
         tiers: 2,
         first: &WITH_Z,
         change: Change {
@@ -231,8 +231,8 @@ fn move_to_a_new_tier() -> Tried<'static> {
 }
 
 // The slots of ba and bba move up to their home.
-fn removal() -> Tried<'static> {
-    Tried {
+fn removal() -> Trial<'static> {
+    Trial {
         tiers: 1,
         first: &WITH_BBA,
         change: Change {
@@ -262,13 +262,13 @@ fn words_are_torn_after_each_store(rt: HostRuntime) -> Result<(), Fail> {
         ("move to a new tier", move_to_a_new_tier()),
         ("removal", removal()),
     ];
-    for (name, tried) in cases {
-        let change = tried.change;
+    for (name, trial) in cases {
+        let change = trial.change;
         let [before, after] = change.chains;
-        let mut segment = tried.segment(rt.alloc())?;
+        let mut segment = trial.segment(rt.alloc())?;
         let first = entries_with(rt.alloc(), change.others, change.old)?;
         assert!(rt; segment.rests(before, &first), "before {name}");
-        let refused = segment.first_refused(&change, tried.stores);
+        let refused = segment.first_refused(&change, trial.stores);
         assert_eq!(rt; refused, None, "at {name}");
         let last = entries_with(rt.alloc(), change.others, change.new)?;
         assert!(rt; segment.rests(after, &last), "after {name}");
@@ -293,12 +293,12 @@ fn words_are_not_torn_after_a_store_too_early(rt: HostRuntime) -> Result<(), Fai
         ),
         ("last slot emptied first", removal(), 0, 2),
     ];
-    for (name, tried, early, late) in cases {
-        let mut stores = Vec::from_slice(rt.alloc(), tried.stores)?;
+    for (name, trial, early, late) in cases {
+        let mut stores = Vec::from_slice(rt.alloc(), trial.stores)?;
         assert!(rt; early < late && late < stores.len(), "at {name}");
         stores.swap(early, late);
-        let mut segment = tried.segment(rt.alloc())?;
-        let refused = segment.first_refused(&tried.change, &stores);
+        let mut segment = trial.segment(rt.alloc())?;
+        let refused = segment.first_refused(&trial.change, &stores);
         assert_eq!(rt; refused, Some(early + 1), "at {name}");
     }
     Ok(())
@@ -323,9 +323,9 @@ fn words_are_not_torn_after_a_store_of_another_change(rt: HostRuntime) -> Result
         ),
         ("unlinked word", move_to_a_new_tier(), At::Chunk(1, 5, 0), 1),
     ];
-    for (name, tried, at, word) in cases {
-        let mut segment = tried.segment(rt.alloc())?;
-        let refused = segment.first_refused(&tried.change, &[(at, word)]);
+    for (name, trial, at, word) in cases {
+        let mut segment = trial.segment(rt.alloc())?;
+        let refused = segment.first_refused(&trial.change, &[(at, word)]);
         assert_eq!(rt; refused, Some(1), "at {name}");
     }
     Ok(())

@@ -82,7 +82,7 @@ impl Entry<'_> {
     }
 
     /// Its checksum.
-    fn sum(&self) -> u64 {
+    fn checksum(&self) -> u64 {
         let mut state = hash(&self.head().to_le_bytes());
         for bytes in [self.key, self.value] {
             for piece in bytes.chunks(8) {
@@ -182,12 +182,8 @@ impl Segment {
     }
 
     /// Whether so many words from an address on are 0.
-    fn is_zero(&self, from: u32, length_is: u32) -> bool {
-        let mut words = self
-            .words
-            .iter()
-            .skip(from as usize)
-            .take(length_is as usize);
+    fn is_zero(&self, from: u32, count: u32) -> bool {
+        let mut words = self.words.iter().skip(from as usize).take(count as usize);
         words.all(|word| *word == 0)
     }
 
@@ -199,7 +195,7 @@ impl Segment {
             || self.is_zero(self.geo.tier_at(place), tier))
     }
 
-    /// Whether these bytes are the words from a word of a chunk on, filled with zeros.
+    /// Whether these bytes are the words from a word of a chunk on, padded with zeros.
     fn has_bytes(&self, from: At, bytes: &[u8]) -> bool {
         let Some(address) = from.address(&self.geo) else {
             return false;
@@ -220,7 +216,7 @@ impl Segment {
         let from = behind.saturating_add(2);
         entry.fits(&self.geo)
             && self.word(At::Chunk(entry.place, entry.chunk, 0)) == entry.head()
-            && self.word(At::Chunk(entry.place, entry.chunk, 1)) == entry.sum()
+            && self.word(At::Chunk(entry.place, entry.chunk, 1)) == entry.checksum()
             && self.has_key(entry)
             && self.has_bytes(At::Chunk(entry.place, entry.chunk, from), entry.value)
     }
@@ -275,7 +271,7 @@ impl Segment {
             && (0..slots).all(|number| self.is_reached(place, number))
     }
 
-    /// Whether the words stand for a chain and these entries.
+    /// Whether the words represent a chain and these entries.
     pub fn rests(&self, chain: &[u32], entries: &[Entry]) -> bool {
         self.has_chain(chain)
             && self.is_zero_outside(chain)
@@ -300,8 +296,8 @@ impl Segment {
         true
     }
 
-    /// Whether the old and the new entry of the change are whole where a slot points to them, and one of
-    /// them has a slot, where the key was there and stays.
+    /// Whether the old and the new entry of the change are whole where a slot points to them, and one
+    /// of them has a slot, where the key was there and stays.
     fn keeps_its(&self, change: &Change, chain: &[u32]) -> bool {
         let old = change
             .old
@@ -315,8 +311,8 @@ impl Segment {
         (change.in_place || (!old || old_stands) && (!new || new_stands)) && (!stays || old || new)
     }
 
-    /// Whether the first word, the key's words and the checksum are such as while a value is replaced in
-    /// place.
+    /// Whether the first word, the key's words and the checksum are such as while a value is replaced
+    /// in place.
     fn is_between(&self, change: &Change) -> bool {
         let (Some(old), Some(new)) = (change.old, change.new) else {
             return false;
@@ -325,7 +321,7 @@ impl Segment {
         let sum = self.word(At::Chunk(old.place, old.chunk, 1));
         (head == old.head() || head == new.head())
             && self.has_key(&old)
-            && (sum == old.sum() || self.reads(&new))
+            && (sum == old.checksum() || self.reads(&new))
     }
 
     /// Whether the words are torn for a change, and the chain keeps the allowance.

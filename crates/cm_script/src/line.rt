@@ -11,8 +11,8 @@ pub struct Line {
     pub op: Op,
 }
 
-/// The records of a script in order, at most `MAX_SCRIPT_LINES`. Contracts see the list of them; records are numbered
-/// from 1.
+/// The records of a script in order, at most `MAX_SCRIPT_LINES`. Contracts see the list of them;
+/// records are numbered from 1.
 #[derive(Drop, Debug)]
 pub struct Script {
     lines: Vec<Line>,

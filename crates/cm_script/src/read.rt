@@ -21,10 +21,10 @@ const MAX_FIELDS: usize = 5;
 
 /// The script of a text, or why it is none. Takes memory.
 ///
-/// The text is read as CSV with no header row, and its records are numbered from 1. It may have at most
-/// `MAX_SCRIPT_BYTES` and `MAX_SCRIPT_LINES`: `TooLong` comes before any record is looked at. Otherwise the first
-/// record that is refused is named, with the first cause that applies to it, in the order of
-/// `LineCause`. `NoMemory` may come at any text.
+/// The text is read as CSV with no header row, and its records are numbered from 1. It may have at
+/// most `MAX_SCRIPT_BYTES` and `MAX_SCRIPT_LINES`: `TooLong` comes before any record is looked at.
+/// Otherwise the first record that is refused is named, with the first cause that applies to it, in
+/// the order of `LineCause`. `NoMemory` may come at any text.
 pub fn read_script(alloc: Global, bytes: &[u8], geo: &Geo) -> Result<Script, ScriptStop>
     ensures ok { IfOk result (λ s. script_of geo.now bytes.now ≡ Ok s) }
     ensures kept { IfOk result (IsFor geo.now) }

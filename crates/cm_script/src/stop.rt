@@ -11,7 +11,8 @@ pub enum LineCause {
     Op = 3,
     /// The operation has another number of fields, the key is empty, or there is no such segment.
     Argument = 4,
-    /// A key, a prefix, a value or an entry is too large, or there are more `list` records than a script may have.
+    /// A key, a prefix, a value or an entry is too large, or there are more `list` records than a
+    /// script may have.
     TooLarge = 5,
     /// The operation isn't built yet, or the caller isn't 0.
     NotYet = 7,

@@ -7,8 +7,8 @@ use std::alloc::{AllocError, Global};
 use std::test::Fail;
 
 // A text and then so many of a byte.
-fn padded(alloc: Global, front: &[u8], byte: u8, count: usize) -> Result<Vec<u8>, AllocError> {
-    let mut text = Vec::from_slice(alloc, front)?;
+fn padded(alloc: Global, prefix: &[u8], byte: u8, count: usize) -> Result<Vec<u8>, AllocError> {
+    let mut text = Vec::from_slice(alloc, prefix)?;
     for _ in 0..count {
         text.push(byte)?;
     }

@@ -11,13 +11,13 @@ use Rattle.cm_plain.proofs.segment.PlainSegment.answer.Goals as goal
 pub overflow_cast-result : goal.overflow_cast-result
 overflow_cast-result c =
     let seen = seen_in c.self.inside in
-    let within_limit : length c.as_slice-entries.result.now < 2 ^ 32 = rw c.as_slice-entries.ensures.value (few_entries seen.geo seen.segment seen.state c.self.invariant.rests) in
+    let within_limit : length c.as_slice-entries.result.now < 2 ^ 32 = rw c.as_slice-entries.ensures.value (few_entries seen.geo seen.segment seen.state c.self.invariant.is_state) in
     omega (arith, within_limit)
 
 pub sorted_pairs-requires : goal.sorted_pairs-requires
 sorted_pairs-requires c =
     let seen = seen_in c.self.inside in
-    rw c.as_slice-entries.ensures.value (few_entries seen.geo seen.segment seen.state c.self.invariant.rests)
+    rw c.as_slice-entries.ensures.value (few_entries seen.geo seen.segment seen.state c.self.invariant.is_state)
 
 pub returns-in-None-missing_reply-2-clause-ok : goal.returns-in-None-missing_reply-2-clause-ok
 returns-in-None-missing_reply-2-clause-ok c =

@@ -14,7 +14,7 @@ use Rattle.cm_plain.proofs.segment.PlainSegment.put_value.Goals.{else-new_tier-v
 pub put_entry-requires-clause-rising : goal.put_entry-requires-clause-rising
 put_entry-requires-clause-rising c =
     let seen = seen_in c.self.inside in
-    rw c.in_ok-of.ensures (rising_without seen.geo seen.segment seen.state c.args.key.now c.self.invariant.rests)
+    rw c.in_ok-of.ensures (rising_without seen.geo seen.segment seen.state c.args.key.now c.self.invariant.is_state)
 
 pub put_entry-requires-clause-apart : goal.put_entry-requires-clause-apart
 put_entry-requires-clause-apart c =

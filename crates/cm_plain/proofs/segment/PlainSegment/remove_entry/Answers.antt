@@ -1,4 +1,4 @@
--- An entry that was taken away, and one that stays for want of a number.
+-- An entry that was removed, and one that stays for want of a number.
 use Rattle.std.proofs.Common.{◌≡◌, ◌==◌, false, sym, arith}
 use Rattle.std.proofs.lemmas.Bool.Decides.{nat_tests}
 use Rattle.cm_plain.specs.Steps.{last_number}

@@ -1,4 +1,4 @@
--- A sweep that takes the least key with its prefix, and one that has taken all.
+-- A sweep that removes the least key with its prefix, and one that finds none.
 use Rattle.std.proofs.Common.{◌≡◌, ◌∙◌, Bool, All, false, sym, ap, subst}
 use Rattle.std.specs.Prelude.{if◌then◌else◌}
 use Rattle.cm_plain.specs.declared.reply.Reply.TheVariants as reply
