@@ -1,6 +1,6 @@
 -- The cause of each stop and of each status, from what the calls below ensure.
 use Rattle.std.specs.Prelude.{◌≡◌, ◌≢◌, ℕ, List}
-use Rattle.std.proofs.Common.{refl, arith}
+use Rattle.std.proofs.Common.{inl, inr, refl, subst, sym, arith}
 use Rattle.cm_geo.specs.declared.geo.Geo.{Geo}
 use Rattle.cm_script.specs.declared.stop.ScriptStop.{ScriptStop}
 use Rattle.cm_script.specs.declared.stop.ScriptStop.TheVariants as script_stop
@@ -13,10 +13,10 @@ use Rattle.chronmap.specs.declared.status.Status.TheVariants as status
 use Rattle.chronmap.specs.declared.stop.Stop.{Stop}
 use Rattle.chronmap.specs.declared.stop.Stop.TheVariants as stop
 use Rattle.chronmap.specs.CommandLine.{GivesGeometry, command_words}
-use Rattle.chronmap.specs.ExitCodes.{HasStatus}
+use Rattle.chronmap.specs.ExitCodes.{HasStatus, WritesReport}
 use Rattle.chronmap.specs.Inputs.{IsNoScript}
 use Rattle.chronmap.specs.ReadStops.{CausesReadStop}
-use Rattle.chronmap.specs.Refusals.{CausesStop, Refuses, status_of, stop_of_read, stop_of_script}
+use Rattle.chronmap.specs.Refusals.{CausesStop, status_of, stop_of_read, stop_of_script}
 use Rattle.chronmap.specs.Statuses.{code_of}
 use Rattle.chronmap.specs.Streams.{StreamView, CountsFault, ReadsUpTo}
 
@@ -35,15 +35,6 @@ stop-from_script words source later geo input (script_stop.Refused line cause) g
     record { run = record { geo = geo; gives = gives; input = input; reads = reads }; refuses = stops }
 stop-from_script words source later geo input script_stop.NoMemory gives reads stops = (geo, gives)
 
--- a call that refuses ends with the status of its stop
-pub has_status-from_stop : (words : List (List ℕ)) (source later_source sink later_sink : StreamView) (why : Stop)
-    → Refuses (status_of why) words source later_source sink later_sink → HasStatus (status_of why) words source later_source sink later_sink
-has_status-from_stop words source later_source sink later_sink stop.NoMemory refuses = refuses
-has_status-from_stop words source later_source sink later_sink stop.Usage refuses = refuses
-has_status-from_stop words source later_source sink later_sink stop.TooLong refuses = refuses
-has_status-from_stop words source later_source sink later_sink (stop.Refused line cause) refuses = refuses
-has_status-from_stop words source later_source sink later_sink stop.ReadFault refuses = refuses
-
 -- words outside the grammar are refused as such, and nothing else
 pub usage-from_stop : (words : List (List ℕ)) (source later_source : StreamView) (why : Stop)
     → CausesStop words source later_source why → words ≢ command_words → status_of why ≡ status.Usage
@@ -53,21 +44,41 @@ usage-from_stop words source later_source stop.TooLong cause other = absurd (oth
 usage-from_stop words source later_source (stop.Refused line cause) refuses other = absurd (other refuses.run.gives.words_are)
 usage-from_stop words source later_source stop.ReadFault (geo, gives, counted) other = absurd (other gives.words_are)
 
--- only an input that is no script has the status of one
-pub no_script-from_stop : (words : List (List ℕ)) (source later_source : StreamView) (why : Stop)
-    → CausesStop words source later_source why → status.Script ≡ status_of why → IsNoScript words source later_source
-no_script-from_stop words source later_source stop.TooLong cause is = (_, cause)
-no_script-from_stop words source later_source (stop.Refused line why) cause is = (_, cause)
-no_script-from_stop words source later_source stop.NoMemory cause is = absurd (cc)
-no_script-from_stop words source later_source stop.Usage cause is = absurd (cc)
-no_script-from_stop words source later_source stop.ReadFault cause is = absurd (cc)
+-- what an exit code says of the words and the streams
+pub record CodeCauses (code : ℕ) (words : List (List ℕ)) (source later_source sink later_sink : StreamView) : Type 0 where
+  pub usage : code ≡ 2 → words ≢ command_words
+  pub script : code ≡ 3 → IsNoScript words source later_source
+  pub read : code ≡ 4 → CountsFault source later_source
+  pub write : code ≡ 5 → CountsFault sink later_sink
 
--- only an input that is no script has the exit code of one
-pub no_script-from_status : (it : Status) (words : List (List ℕ)) (source later_source sink later_sink : StreamView)
-    → code_of it ≡ 3 → HasStatus it words source later_source sink later_sink → IsNoScript words source later_source
-no_script-from_status status.Script words source later_source sink later_sink is has = no_script-from_stop words source later_source has.stop has.cause has.status_is
-no_script-from_status status.Ok words source later_source sink later_sink is has = absurd (omega arith)
-no_script-from_status status.NoMemory words source later_source sink later_sink is has = absurd (omega arith)
-no_script-from_status status.Usage words source later_source sink later_sink is has = absurd (omega arith)
-no_script-from_status status.ReadFault words source later_source sink later_sink is has = absurd (omega arith)
-no_script-from_status status.WriteFault words source later_source sink later_sink is has = absurd (omega arith)
+causes-from_stop : (words : List (List ℕ)) (source later_source sink later_sink : StreamView) (why : Stop)
+    → CausesStop words source later_source why → CodeCauses (code_of (status_of why)) words source later_source sink later_sink
+causes-from_stop words source later_source sink later_sink stop.NoMemory cause =
+    record { usage = λ is. absurd (omega (arith, is)); script = λ is. absurd (omega (arith, is)); read = λ is. absurd (omega (arith, is)); write = λ is. absurd (omega (arith, is)) }
+causes-from_stop words source later_source sink later_sink stop.Usage cause =
+    record { usage = λ is. cause.0; script = λ is. absurd (omega (arith, is)); read = λ is. absurd (omega (arith, is)); write = λ is. absurd (omega (arith, is)) }
+causes-from_stop words source later_source sink later_sink stop.TooLong cause =
+    record { usage = λ is. absurd (omega (arith, is)); script = λ is. (_, cause); read = λ is. absurd (omega (arith, is)); write = λ is. absurd (omega (arith, is)) }
+causes-from_stop words source later_source sink later_sink (stop.Refused line why) cause =
+    record { usage = λ is. absurd (omega (arith, is)); script = λ is. (_, cause); read = λ is. absurd (omega (arith, is)); write = λ is. absurd (omega (arith, is)) }
+causes-from_stop words source later_source sink later_sink stop.ReadFault cause =
+    record { usage = λ is. absurd (omega (arith, is)); script = λ is. absurd (omega (arith, is)); read = λ is. cause.2; write = λ is. absurd (omega (arith, is)) }
+
+causes-from_report : (it : Status) (words : List (List ℕ)) (source later_source sink later_sink : StreamView) (text : List ℕ)
+    → WritesReport it sink later_sink text → CodeCauses (code_of it) words source later_source sink later_sink
+causes-from_report status.Ok words source later_source sink later_sink text writes =
+    record { usage = λ is. absurd (omega (arith, is)); script = λ is. absurd (omega (arith, is)); read = λ is. absurd (omega (arith, is)); write = λ is. absurd (omega (arith, is)) }
+causes-from_report status.WriteFault words source later_source sink later_sink text writes =
+    record { usage = λ is. absurd (omega (arith, is)); script = λ is. absurd (omega (arith, is)); read = λ is. absurd (omega (arith, is)); write = λ is. writes.0 }
+causes-from_report status.NoMemory words source later_source sink later_sink text writes = absurd writes
+causes-from_report status.Usage words source later_source sink later_sink text writes = absurd writes
+causes-from_report status.Script words source later_source sink later_sink text writes = absurd writes
+causes-from_report status.ReadFault words source later_source sink later_sink text writes = absurd writes
+
+pub causes-from_status : (it : Status) (words : List (List ℕ)) (source later_source sink later_sink : StreamView)
+    → HasStatus it words source later_source sink later_sink → CodeCauses (code_of it) words source later_source sink later_sink
+causes-from_status it words source later_source sink later_sink has = elim has [
+  | inl gives ↦ causes-from_report it words source later_source sink later_sink gives.text gives.writes
+  | inr refuses ↦ subst (λ (that : Status). CodeCauses (code_of that) words source later_source sink later_sink) (sym refuses.status_is)
+      (causes-from_stop words source later_source sink later_sink refuses.stop refuses.cause)
+]

@@ -2,7 +2,7 @@
 
 ghost use Rattle.std.specs.Prelude.{◌≡◌, ◌≢◌, ◌↔◌, IfOk, IfErr};
 ghost use Rattle.chronmap.specs.CommandLine.{command_words};
-ghost use Rattle.chronmap.specs.ExitCodes.{HasStatus, HasExitCode};
+ghost use Rattle.chronmap.specs.ExitCodes.{HasExitCode, HasStatus, WritesReport};
 ghost use Rattle.chronmap.specs.Inputs.{IsNoScript, IsReportText};
 ghost use Rattle.chronmap.specs.Refusals.{CausesStop};
 ghost use Rattle.chronmap.specs.Streams.{CountsFault};
@@ -34,18 +34,24 @@ fn report_text<R: Source>(alloc: Global, words: &[Word], source: &mut R) -> Resu
     Ok(render(alloc, &report)?)
 }
 
+// Gives the text of a report, and answers the status.
+fn write_report<W: Sink>(sink: &mut W, text: &[u8]) -> Status
+    ensures { WritesReport result (W.seen sink.old) (W.seen sink.new) text.now }
+{
+    match write_text(sink, text) {
+        Ok(()) => Status::Ok,
+        Err(Failed) => Status::WriteFault,
+    }
+}
+
 // Serves the words, and answers the status.
 fn serve<R: Source, W: Sink>(alloc: Global, words: &[Word], source: &mut R, sink: &mut W) -> Status
     ensures status { HasStatus result words.now (R.seen source.old) (R.seen source.new) (W.seen sink.old) (W.seen sink.new) }
     ensures usage { words.now ≢ command_words → result ≡ status.Usage }
 {
-    let text = match report_text(alloc, words, source) {
-        Ok(text) => text,
-        Err(stop) => return refuse(sink, stop),
-    };
-    match write_text(sink, text.as_slice()) {
-        Ok(()) => Status::Ok,
-        Err(Failed) => Status::WriteFault,
+    match report_text(alloc, words, source) {
+        Ok(text) => write_report(sink, text.as_slice()),
+        Err(stop) => refuse(sink, stop),
     }
 }
 
