@@ -32,6 +32,10 @@ pub record MemoryStream : Type 0 where
   pub piece : ℕ
   pub calls : CallsView
 
+-- one that had no call
+abbrev pub new_stream : List ℕ → ℕ → List ℕ → MemoryStream
+new_stream bytes piece failing = record { bytes = bytes; piece = piece; calls = record { failing = failing; number = 0; faults = 0 } }
+
 abbrev pub slice_stream : SliceSource → MemoryStream
 slice_stream source = record { bytes = source.bytes.now; piece = source.piece; calls = calls_view source.calls }
 

@@ -54,7 +54,8 @@ pub struct StdSource<R: Read + Drop> {
 impl<R: Read + Drop> StdSource<R> {
     /// A source over this reader. Takes no memory.
     pub fn new(inner: R) -> StdSource<R>
-        ensures { ⟦<StdSource<R> as Source>⟧.seen result ≡ record { bytes = R.remaining inner; faults = 0 } }
+        ensures { ⟦<StdSource<R> as Source>⟧.seen result
+            ≡ record { bytes = R.remaining inner; faults = 0 } }
     {
         StdSource { inner, faults: 0 }
     }
@@ -68,9 +69,12 @@ impl<R: Read + Drop> Source for StdSource<R> {
     /// One read, tried again where a signal interrupts it. A fault is counted exactly where it failed.
     fn take(&mut self, buf: &mut [u8]) -> Result<usize, Failed>
         ensures bound { ReadsAtMost result buf.new }
-        ensures bytes { ReadConsumes (⟦<StdSource<R> as Source>⟧.seen self.old).bytes (⟦<StdSource<R> as Source>⟧.seen self.new).bytes result buf.new }
-        ensures faults { ReportsFault (⟦<StdSource<R> as Source>⟧.seen self.old) (⟦<StdSource<R> as Source>⟧.seen self.new) result }
-        ensures counts { CountsFailure (⟦<StdSource<R> as Source>⟧.seen self.old) (⟦<StdSource<R> as Source>⟧.seen self.new) result }
+        ensures bytes { ReadConsumes (⟦<StdSource<R> as Source>⟧.seen self.old).bytes
+            (⟦<StdSource<R> as Source>⟧.seen self.new).bytes result buf.new }
+        ensures faults { ReportsFault (⟦<StdSource<R> as Source>⟧.seen self.old)
+            (⟦<StdSource<R> as Source>⟧.seen self.new) result }
+        ensures counts { CountsFailure (⟦<StdSource<R> as Source>⟧.seen self.old)
+            (⟦<StdSource<R> as Source>⟧.seen self.new) result }
     {
         let result = read_retrying(&mut self.inner, buf);
         if result.is_err() {
@@ -91,7 +95,8 @@ pub struct StdSink<W: Write + Drop> {
 impl<W: Write + Drop> StdSink<W> {
     /// A sink over this writer. Takes no memory.
     pub fn new(inner: W) -> StdSink<W>
-        ensures { ⟦<StdSink<W> as Sink>⟧.seen result ≡ record { bytes = W.contents inner; faults = 0 } }
+        ensures { ⟦<StdSink<W> as Sink>⟧.seen result
+            ≡ record { bytes = W.contents inner; faults = 0 } }
     {
         StdSink { inner, faults: 0 }
     }
@@ -107,9 +112,12 @@ impl<W: Write + Drop> Sink for StdSink<W> {
     fn give(&mut self, bytes: &[u8]) -> Result<usize, Failed>
         ensures bound { IfOk result (λ n. n ≤ length bytes.now) }
         ensures progress { IfOk result (λ n. 0 < length bytes.now → 0 < n) }
-        ensures bytes { WriteAppends (⟦<StdSink<W> as Sink>⟧.seen self.old).bytes (⟦<StdSink<W> as Sink>⟧.seen self.new).bytes result bytes.now }
-        ensures faults { ReportsFault (⟦<StdSink<W> as Sink>⟧.seen self.old) (⟦<StdSink<W> as Sink>⟧.seen self.new) result }
-        ensures counts { CountsFailure (⟦<StdSink<W> as Sink>⟧.seen self.old) (⟦<StdSink<W> as Sink>⟧.seen self.new) result }
+        ensures bytes { WriteAppends (⟦<StdSink<W> as Sink>⟧.seen self.old).bytes
+            (⟦<StdSink<W> as Sink>⟧.seen self.new).bytes result bytes.now }
+        ensures faults { ReportsFault (⟦<StdSink<W> as Sink>⟧.seen self.old)
+            (⟦<StdSink<W> as Sink>⟧.seen self.new) result }
+        ensures counts { CountsFailure (⟦<StdSink<W> as Sink>⟧.seen self.old)
+            (⟦<StdSink<W> as Sink>⟧.seen self.new) result }
     {
         let result = write_retrying(&mut self.inner, bytes);
         if result.is_err() {

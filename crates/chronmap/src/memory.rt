@@ -1,6 +1,6 @@
 //! A source and a sink in memory, with calls that are to fail.
 
-ghost use Rattle.std.specs.Prelude.{◌≡◌, ◌≤◌, ◌<◌, ◌↔◌, Some, [], length, min, IfOk, IsErr, IsTrue};
+ghost use Rattle.std.specs.Prelude.{◌≡◌, ◌≤◌, ◌<◌, ◌↔◌, [], length, min, IfOk, IsErr, IsTrue};
 ghost use Rattle.std.specs.Io.{ReadsAtMost};
 ghost use Rattle.std.specs.Io.KnownBytes.{ReadConsumes, WriteAppends};
 
@@ -58,7 +58,8 @@ impl Calls {
     /// Counts a fault.
     fn fault(&mut self) -> Failed
         ensures no_fewer { (calls_view self.old).faults ≤ (calls_view self.new).faults }
-        ensures counts { calls_view self.new ≡ record (calls_view self.old) { faults = next_count (calls_view self.old).faults } }
+        ensures counts { let old = calls_view self.old in
+            calls_view self.new ≡ record old { faults = next_count old.faults } }
     {
         self.faults = self.faults.saturating_add(1);
         Failed
@@ -75,13 +76,13 @@ pub struct SliceSource<'a> {
 }
 
 impl<'a> SliceSource<'a> {
-    ghost use Rattle.chronmap.specs.MemoryStreams.{slice_stream};
+    ghost use Rattle.chronmap.specs.MemoryStreams.{new_stream, slice_stream};
 
     /// A source of these bytes, given in pieces of at most `piece`, whose calls with these numbers fail.
     /// Calls are counted from 0. Takes no memory.
     pub fn new(bytes: &'a [u8], piece: usize, failing: Vec<u32>) -> SliceSource<'a>
         requires { 1 ≤ piece }
-        ensures { slice_stream result ≡ record { bytes = bytes.entry.now; piece = piece; calls = record { failing = failing.items; number = 0; faults = 0 } } }
+        ensures { slice_stream result ≡ new_stream bytes.entry.now piece failing.items }
     {
         SliceSource {
             bytes,
@@ -101,10 +102,13 @@ impl<'a> Source for SliceSource<'a> {
     /// or have room.
     fn take(&mut self, buf: &mut [u8]) -> Result<usize, Failed>
         ensures bound { ReadsAtMost result buf.new }
-        ensures bytes { ReadConsumes (Some (slice_stream self.old).bytes) (Some (slice_stream self.new).bytes) result buf.new }
-        ensures faults { ReportsFault (seen_of (slice_stream self.old)) (seen_of (slice_stream self.new)) result }
+        ensures bytes { ReadConsumes (seen_of (slice_stream self.old)).bytes
+            (seen_of (slice_stream self.new)).bytes result buf.new }
+        ensures faults { ReportsFault (seen_of (slice_stream self.old))
+            (seen_of (slice_stream self.new)) result }
         ensures fails { IsErr result ↔ IsToFail (slice_stream self.old).calls }
-        ensures moves { MovesPiece (slice_stream self.old) (slice_stream self.new) (min (length buf.old) (length (slice_stream self.old).bytes)) result }
+        ensures moves { let old = slice_stream self.old in
+            MovesPiece old (slice_stream self.new) (min (length buf.old) (length old.bytes)) result }
     {
         self.calls.begin()?;
         let count = self.piece.min(buf.len()).min(self.bytes.len());
@@ -125,13 +129,13 @@ pub struct VecSink {
 }
 
 impl VecSink {
-    ghost use Rattle.chronmap.specs.MemoryStreams.{vec_stream};
+    ghost use Rattle.chronmap.specs.MemoryStreams.{new_stream, vec_stream};
 
     /// An empty sink that takes pieces of at most `piece`, whose calls with these numbers fail. Calls are
     /// counted from 0. Takes no memory.
     pub fn new(alloc: Global, piece: usize, failing: Vec<u32>) -> VecSink
         requires { 1 ≤ piece }
-        ensures { vec_stream result ≡ record { bytes = []; piece = piece; calls = record { failing = failing.items; number = 0; faults = 0 } } }
+        ensures { vec_stream result ≡ new_stream [] piece failing.items }
     {
         VecSink {
             held: Vec::new(alloc),
@@ -159,7 +163,8 @@ impl Sink for VecSink {
     fn give(&mut self, bytes: &[u8]) -> Result<usize, Failed>
         ensures bound { IfOk result (λ n. n ≤ length bytes.now) }
         ensures progress { IfOk result (λ n. 0 < length bytes.now → 0 < n) }
-        ensures bytes { WriteAppends (Some (vec_stream self.old).bytes) (Some (vec_stream self.new).bytes) result bytes.now }
+        ensures bytes { WriteAppends (seen_of (vec_stream self.old)).bytes
+            (seen_of (vec_stream self.new)).bytes result bytes.now }
         ensures faults { ReportsFault (seen_of (vec_stream self.old)) (seen_of (vec_stream self.new)) result }
         ensures fails { IsToFail (vec_stream self.old).calls → IsErr result }
         ensures moves { MovesPiece (vec_stream self.old) (vec_stream self.new) (length bytes.now) result }

@@ -22,7 +22,8 @@ use std::alloc::Global;
 
 // The text of the report of the source's script.
 fn report_text<R: Source>(alloc: Global, words: &[Word], source: &mut R) -> Result<Vec<u8>, Stop>
-    ensures ok { IfOk result (λ text. IsReportText words.now (R.seen source.old) (R.seen source.new) text.items) }
+    ensures ok { IfOk result
+        (λ text. IsReportText words.now (R.seen source.old) (R.seen source.new) text.items) }
     ensures err { IfErr result (CausesStop words.now (R.seen source.old) (R.seen source.new)) }
 {
     let Some(geo) = geometry_of(words) else {
@@ -46,7 +47,8 @@ fn write_report<W: Sink>(sink: &mut W, text: &[u8]) -> Status
 
 // Serves the words, and answers the status.
 fn serve<R: Source, W: Sink>(alloc: Global, words: &[Word], source: &mut R, sink: &mut W) -> Status
-    ensures status { HasStatus result words.now (R.seen source.old) (R.seen source.new) (W.seen sink.old) (W.seen sink.new) }
+    ensures status { HasStatus result words.now (R.seen source.old) (R.seen source.new)
+        (W.seen sink.old) (W.seen sink.new) }
     ensures usage { words.now ≢ command_words → result ≡ status.Usage }
 {
     match report_text(alloc, words, source) {
@@ -76,7 +78,8 @@ pub fn run_words<R: Source, W: Sink>(
     source: &mut R,
     sink: &mut W,
 ) -> u8
-    ensures code { HasExitCode result words.now (R.seen source.old) (R.seen source.new) (W.seen sink.old) (W.seen sink.new) }
+    ensures code { HasExitCode result words.now (R.seen source.old) (R.seen source.new)
+        (W.seen sink.old) (W.seen sink.new) }
     ensures usage { (result ≡ 2) ↔ (words.now ≢ command_words) }
     ensures script { result ≡ 3 → IsNoScript words.now (R.seen source.old) (R.seen source.new) }
     ensures read { result ≡ 4 → CountsFault (R.seen source.old) (R.seen source.new) }

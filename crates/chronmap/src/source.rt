@@ -62,7 +62,8 @@ const PIECE: usize = 4096;
 /// bytes that were taken are lost.
 pub fn read_input<S: Source>(alloc: Global, source: &mut S) -> Result<Vec<u8>, ReadStop>
     ensures faults { (S.seen source.old).faults ≤ (S.seen source.new).faults }
-    ensures all { IfOk result (λ input. ReadsUpTo MOST_TAKEN (S.seen source.old) (S.seen source.new) input.items) }
+    ensures all { IfOk result
+        (λ input. ReadsUpTo MOST_TAKEN (S.seen source.old) (S.seen source.new) input.items) }
     ensures cause { IfErr result (CausesReadStop (S.seen source.old) (S.seen source.new)) }
 {
     let mut bytes = Vec::new(alloc);
