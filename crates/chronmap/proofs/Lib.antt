@@ -1,6 +1,6 @@
 pub mod Answering
-pub mod Appending
-pub mod Causing
 pub mod Explaining
 pub mod Histories
+pub mod KnownBytes
 pub mod Regrant
+pub mod StatusCauses

@@ -1,9 +1,9 @@
-pub mod Causes
-pub mod Told
-pub mod Stops
+pub mod Streams
+pub mod ReadStops
 pub mod CommandLine
 pub mod Statuses
-pub mod Served
-pub mod Printed
+pub mod Inputs
 pub mod Refusals
+pub mod ExitCodes
+pub mod MemoryStreams
 pub mod RunRecords

@@ -1,7 +1,7 @@
 //! The words that the program takes.
 
 ghost use Rattle.std.specs.Prelude.{◌≡◌, ◌≢◌, ◌↔◌, IsTrue, IfOk, MatchOption, codes, drop, map, string_bytes};
-ghost use Rattle.chronmap.specs.CommandLine.{command_words as the_words, GivesGeometry};
+ghost use Rattle.chronmap.specs.CommandLine.{command_words, GivesGeometry};
 
 use crate::word::Word;
 use cm_geo::Geo;
@@ -9,7 +9,7 @@ use cm_plain::NoMemory;
 use std::alloc::Global;
 
 // Whether these three words run a script.
-fn are_run(command: &str, option: &str, value: &str) -> bool
+fn are_run_words(command: &str, option: &str, value: &str) -> bool
     ensures { IsTrue result ↔ ((command.now ≡ codes "run") × (option.now ≡ codes "--geo") × (value.now ≡ codes "1,1,64,4,0")) }
 {
     command == "run" && option == "--geo" && value == "1,1,64,4,0"
@@ -17,17 +17,21 @@ fn are_run(command: &str, option: &str, value: &str) -> bool
 
 // Whether the words are the three that run a script, and no more.
 fn is_run(words: &[Word]) -> bool
-    ensures { IsTrue result ↔ (words.now ≡ the_words) }
+    ensures { IsTrue result ↔ (words.now ≡ command_words) }
 {
     match words {
-        [command, option, value] => are_run(command.as_str(), option.as_str(), value.as_str()),
+        [command, option, value] => are_run_words(
+            command.as_str(),
+            option.as_str(),
+            value.as_str(),
+        ),
         _ => false,
     }
 }
 
 /// The geometry of the words that run a script, and none for all other words.
 pub fn geometry_of(words: &[Word]) -> Option<Geo>
-    ensures { MatchOption result (words.now ≢ the_words) (GivesGeometry words.now) }
+    ensures { MatchOption result (words.now ≢ command_words) (GivesGeometry words.now) }
 {
     if !is_run(words) {
         return None;

@@ -1,9 +1,9 @@
 //! Runs scripts of callers over one map, and prints their answers and the final map.
 #![tactic(auto)]
 
+mod adapters;
 mod command;
 mod memory;
-mod real;
 mod refuse;
 mod run;
 mod serve;
@@ -15,10 +15,9 @@ mod stop;
 mod tests;
 mod word;
 
-use cm_plain::NoMemory;
+pub use adapters::{StdSink, StdSource};
 use command::words_of;
 pub use memory::{SliceSource, VecSink};
-pub use real::{StdSink, StdSource};
 use refuse::refuse;
 pub use serve::run_words;
 pub use sink::{Sink, write_text};
@@ -32,10 +31,10 @@ pub use word::Word;
 
 // The words behind the program's name, of the arguments as they could be read. Arguments that are no
 // text are words that the program doesn't take.
-fn given_words(alloc: Global, args: io::Result<env::Args>) -> Result<Vec<Word>, Stop> {
+fn command_words(alloc: Global, args: io::Result<env::Args>) -> Result<Vec<Word>, Stop> {
     match args {
         Ok(args) => {
-            let args: Vec<String> = args.collect(alloc).map_err(NoMemory::from)?;
+            let args: Vec<String> = args.collect(alloc)?;
             Ok(words_of(alloc, args.as_slice())?)
         }
         Err(error) if error.kind() == io::ErrorKind::OutOfMemory => Err(Stop::NoMemory),
@@ -47,7 +46,7 @@ fn main(rt: HostRuntime) -> ExitCode {
     let alloc = rt.alloc();
     let mut source = StdSource::new(rt.stdin());
     let mut sink = StdSink::new(rt.stdout());
-    let status = match given_words(alloc, env::args(&rt)) {
+    let status = match command_words(alloc, env::args(&rt)) {
         Ok(words) => run_words(alloc, words.as_slice(), &mut source, &mut sink),
         Err(stop) => refuse(&mut sink, stop).code(),
     };

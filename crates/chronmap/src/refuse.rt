@@ -1,77 +1,63 @@
-//! The texts of refusals, given to a sink.
+//! The lines of refusals, given to a sink.
 
-ghost use Rattle.std.specs.Prelude.{◌≡◌, ◌≤◌, ◌++◌, OnOk, OnErr, codes};
-ghost use Rattle.std.specs.Io.KnownBytes.{Appends};
-ghost use Rattle.cm_script.specs.Scripts.{refused};
-ghost use Rattle.chronmap.specs.Causes.{HasCause};
+ghost use Rattle.std.specs.Prelude.{◌≡◌, ◌≤◌, ◌++◌, codes, length};
 ghost use Rattle.chronmap.specs.Refusals.{refusal_text, status_of};
-ghost use Rattle.chronmap.specs.Served.{Refuses};
-ghost use Rattle.chronmap.specs.Statuses.{cause_word, script_text};
-ghost use Rattle.chronmap.specs.Told.{AppendsPrefix};
+ghost use Rattle.chronmap.specs.Statuses.{cause_word};
+ghost use Rattle.chronmap.specs.Streams.{AppendsUnlessFault};
 
 use crate::sink::{Sink, write_text};
 use crate::status::Status;
 use crate::stop::Stop;
-use cm_plain::Failed;
+use arrayvec::ArrayString;
 use cm_script::LineCause;
 use itoa::Buffer;
 
+// The most bytes of a line: "refused,script,", ten digits and ",too-large\n".
+const LONGEST_LINE: usize = 36;
+
 // What stands behind the line's number in the refusal of a script.
-fn cause_end(cause: LineCause) -> &'static [u8]
-    ensures { result.now ≡ codes "," ++ cause_word cause ++ codes "\n" }
+fn cause_end(cause: LineCause) -> &'static str
+    ensures text { result.now ≡ codes "," ++ cause_word cause ++ codes "\n" }
+    ensures short { length result.now ≤ 11 }
 {
     match cause {
-        LineCause::Csv => b",csv\n",
-        LineCause::Caller => b",caller\n",
-        LineCause::Op => b",op\n",
-        LineCause::Argument => b",argument\n",
-        LineCause::TooLarge => b",too-large\n",
-        LineCause::NotYet => b",not-yet\n",
+        LineCause::Csv => ",csv\n",
+        LineCause::Caller => ",caller\n",
+        LineCause::Op => ",op\n",
+        LineCause::Argument => ",argument\n",
+        LineCause::TooLarge => ",too-large\n",
+        LineCause::NotYet => ",not-yet\n",
     }
 }
 
-// Gives the refusal of a script's line, piece by piece, so that no memory is needed.
-fn write_refused<W: Sink>(sink: &mut W, line: u32, cause: LineCause) -> Result<(), Failed>
-    ensures cause { HasCause (W.faults sink.old) (W.faults sink.new) result }
-    ensures whole { OnOk result (Appends (W.held sink.old) (W.held sink.new) (script_text (refused line cause))) }
-    ensures front { OnErr result (AppendsPrefix (W.held sink.old) (W.held sink.new) (script_text (refused line cause))) }
+// The line of a refusal. It takes no memory, so that want of memory can be told too.
+fn refusal_line(stop: Stop) -> ArrayString<LONGEST_LINE>
+    ensures { result.bytes ≡ refusal_text stop }
 {
-    let mut buffer = Buffer::new();
-    write_text(sink, b"refused,script,")?;
-    write_text(sink, buffer.format(line).as_bytes())?;
-    write_text(sink, cause_end(cause))
-}
-
-// Gives the text of a refusal.
-fn write_refusal<W: Sink>(sink: &mut W, stop: Stop) -> Result<(), Failed>
-    ensures cause { HasCause (W.faults sink.old) (W.faults sink.new) result }
-    ensures whole { OnOk result (Appends (W.held sink.old) (W.held sink.new) (refusal_text stop)) }
-    ensures front { OnErr result (AppendsPrefix (W.held sink.old) (W.held sink.new) (refusal_text stop)) }
-{
+    let mut text = ArrayString::new();
     match stop {
-        Stop::NoMemory => write_text(sink, b"refused,memory\n"),
-        Stop::Usage => write_text(sink, b"refused,usage\n"),
-        Stop::TooLong => write_text(sink, b"refused,script,0,too-long\n"),
-        Stop::Refused { line, cause } => write_refused(sink, line, cause),
-        Stop::ReadFault => write_text(sink, b"refused,read\n"),
+        Stop::NoMemory => text.push_str("refused,memory\n"),
+        Stop::Usage => text.push_str("refused,usage\n"),
+        Stop::TooLong => text.push_str("refused,script,0,too-long\n"),
+        Stop::Refused { line, cause } => {
+            let mut digits = Buffer::new();
+            text.push_str("refused,script,");
+            text.push_str(digits.format(line));
+            text.push_str(cause_end(cause));
+        }
+        Stop::ReadFault => text.push_str("refused,read\n"),
     }
+    text
 }
 
-/// Gives the text of a refusal, and answers its status. A fault of the sink there doesn't change it. Takes
-/// no memory.
+/// Gives the line of a refusal, as one piece where the sink takes it, and answers the status. A fault of
+/// the sink there doesn't change it. Takes no memory.
 pub fn refuse<W: Sink>(sink: &mut W, stop: Stop) -> Status
     ensures status { result ≡ status_of stop }
-    ensures later { W.faults sink.old ≤ W.faults sink.new }
-    ensures text { Refuses (record { told = W.held sink.old; faults = W.faults sink.old }) (record { told = W.held sink.new; faults = W.faults sink.new }) (refusal_text stop) }
+    ensures faults { (W.seen sink.old).faults ≤ (W.seen sink.new).faults }
+    ensures text { AppendsUnlessFault (W.seen sink.old) (W.seen sink.new) (refusal_text stop) }
 {
-    match write_refusal(sink, stop) {
-        Ok(()) => {}
-        Err(Failed) => {}
-    }
-    match stop {
-        Stop::NoMemory => Status::NoMemory,
-        Stop::Usage => Status::Usage,
-        Stop::TooLong | Stop::Refused { .. } => Status::Script,
-        Stop::ReadFault => Status::ReadFault,
-    }
+    let line = refusal_line(stop);
+    let _ = write_text(sink, line.as_str().as_bytes());
+    Status::from(stop)
 }

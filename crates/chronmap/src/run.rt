@@ -1,37 +1,19 @@
 //! Performing a script on a map of one segment.
 
-ghost use Rattle.std.specs.Prelude.{◌≡◌, ◌+◌, IfOk, length, map};
+ghost use Rattle.std.specs.Prelude.{◌≡◌, IfOk, true};
+ghost use Rattle.cm_plain.specs.Limits.{KeepsLimits};
 ghost use Rattle.cm_plain.specs.States.{one_tier};
-ghost use Rattle.cm_script.specs.Explained.{Explained, map_line};
-ghost use Rattle.cm_script.specs.Scripts.{IsFor};
+ghost use Rattle.cm_script.specs.Explained.{Explained};
+ghost use Rattle.cm_script.specs.Scripts.{IsFor, is_built};
+ghost use Rattle.chronmap.specs.RunRecords.{MapsState, Receives};
 
 use cm_geo::Geo;
-use cm_plain::{Bytes, ListOf, MapLine, NoMemory, Op, Pair, PlainSegment, Receipt, Reply};
+use cm_plain::{ListOf, MapLine, NoMemory, Pair, PlainSegment, Receipt};
 use cm_script::{Line, Report, Script};
 use std::alloc::Global;
 
-/// The lines of a map's pairs in a segment. Takes memory.
-fn map_lines(alloc: Global, segment: u32, pairs: &[Pair]) -> Result<Vec<MapLine>, NoMemory>
-    ensures { IfOk result (λ lines. lines.items ≡ map (map_line segment) pairs.now) }
-{
-    let mut lines = Vec::with_capacity(alloc, pairs.len())?;
-    for pair in pairs {
-        lines.push(MapLine {
-            segment,
-            key: Bytes::of(alloc, pair.key.as_slice())?,
-            value: Bytes::of(alloc, pair.value.as_slice())?,
-        })?;
-    }
-    Ok(lines)
-}
-
 /// The one segment of the map.
 const SEGMENT: u32 = 0;
-
-ghost use Rattle.std.specs.Prelude.{true, ◌^◌, ◌<◌, OnErr};
-ghost use Rattle.cm_plain.specs.Limits.{KeepsLimits};
-ghost use Rattle.cm_script.specs.Scripts.{is_built};
-ghost use Rattle.chronmap.specs.RunRecords.{MapsState, Receives};
 
 /// Performs one record, and gives its receipt. Takes memory.
 fn perform(
@@ -57,16 +39,17 @@ fn perform(
     })
 }
 
-/// The final map of a segment, by byte order of its keys. Takes memory.
-fn final_map(alloc: Global, segment: &mut PlainSegment) -> Result<Vec<MapLine>, NoMemory>
-    requires one_segment { segment.old.geo.segments ≡ 1 }
-    requires first { segment.old.segment ≡ 0 }
-    ensures { IfOk result (λ lines. MapsState segment.old.state lines.items) }
+/// The final map of a segment, by byte order of its keys. Takes memory, for one copy of each pair.
+fn final_map(alloc: Global, segment: &PlainSegment) -> Result<Vec<MapLine>, NoMemory>
+    ensures { IfOk result (λ lines. MapsState segment.now.state lines.items) }
 {
-    match segment.answer(alloc, &Op::List { segment: SEGMENT }, false)? {
-        Reply::Pairs(pairs) => map_lines(alloc, SEGMENT, pairs.as_slice()),
-        _ => unreachable!(),
-    }
+    let pairs = segment.contents(alloc)?.into_vec();
+    let line_of = |Pair { key, value }| MapLine {
+        segment: SEGMENT,
+        key,
+        value,
+    };
+    Ok(pairs.into_iter().map(line_of).collect(alloc)?)
 }
 
 /// Performs a script's records one after the other from an empty map of one segment, none of whose tiers
@@ -83,7 +66,7 @@ pub fn run_script(alloc: Global, geo: &Geo, script: &Script) -> Result<Report, N
         receipts.push(receipt)?;
     }
     let extra = segment.extra_tiers();
-    let map = final_map(alloc, &mut segment)?;
+    let map = final_map(alloc, &segment)?;
     Ok(Report {
         receipts: ListOf::from_vec(receipts),
         map: ListOf::from_vec(map),

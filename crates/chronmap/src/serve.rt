@@ -1,11 +1,11 @@
 //! The top call: words and input to status and output.
 
 ghost use Rattle.std.specs.Prelude.{◌≡◌, ◌≢◌, ◌↔◌, IfOk, IfErr};
-ghost use Rattle.chronmap.specs.Causes.{Rose};
-ghost use Rattle.chronmap.specs.Printed.{Prints};
-ghost use Rattle.chronmap.specs.Refusals.{IsNoScript, StopsFor};
-ghost use Rattle.chronmap.specs.Served.{Causes, Served};
-ghost use Rattle.chronmap.specs.CommandLine.{command_words as the_words};
+ghost use Rattle.chronmap.specs.CommandLine.{command_words};
+ghost use Rattle.chronmap.specs.ExitCodes.{HasExitCode, HasStatus, WritesReport};
+ghost use Rattle.chronmap.specs.Inputs.{IsNoScript, IsReportText};
+ghost use Rattle.chronmap.specs.Refusals.{CausesStop};
+ghost use Rattle.chronmap.specs.Streams.{CountsFault};
 ghost use Rattle.chronmap.specs.declared.status.Status.TheVariants as status;
 
 use crate::command::geometry_of;
@@ -22,10 +22,9 @@ use std::alloc::Global;
 
 // The text of the report of the source's script.
 fn report_text<R: Source>(alloc: Global, words: &[Word], source: &mut R) -> Result<Vec<u8>, Stop>
-    ensures ok { IfOk result (λ text. Prints words.now (record { told = R.left source.old; faults = R.faults source.old })
-        (record { told = R.left source.new; faults = R.faults source.new }) text.items) }
-    ensures err { IfErr result (StopsFor words.now (record { told = R.left source.old; faults = R.faults source.old })
-        (record { told = R.left source.new; faults = R.faults source.new })) }
+    ensures ok { IfOk result
+        (λ text. IsReportText words.now (R.seen source.old) (R.seen source.new) text.items) }
+    ensures err { IfErr result (CausesStop words.now (R.seen source.old) (R.seen source.new)) }
 {
     let Some(geo) = geometry_of(words) else {
         return Err(Stop::Usage);
@@ -36,20 +35,25 @@ fn report_text<R: Source>(alloc: Global, words: &[Word], source: &mut R) -> Resu
     Ok(render(alloc, &report)?)
 }
 
-// Serves the words, and answers the status.
-fn serve<R: Source, W: Sink>(alloc: Global, words: &[Word], source: &mut R, sink: &mut W) -> Status
-    ensures cause { Causes result words.now
-        (record { told = R.left source.old; faults = R.faults source.old }) (record { told = R.left source.new; faults = R.faults source.new })
-        (record { told = W.held sink.old; faults = W.faults sink.old }) (record { told = W.held sink.new; faults = W.faults sink.new }) }
-    ensures usage { words.now ≢ the_words → result ≡ status.Usage }
+// Gives the text of a report, and answers the status.
+fn write_report<W: Sink>(sink: &mut W, text: &[u8]) -> Status
+    ensures { WritesReport result (W.seen sink.old) (W.seen sink.new) text.now }
 {
-    let text = match report_text(alloc, words, source) {
-        Ok(text) => text,
-        Err(stop) => return refuse(sink, stop),
-    };
-    match write_text(sink, text.as_slice()) {
+    match write_text(sink, text) {
         Ok(()) => Status::Ok,
         Err(Failed) => Status::WriteFault,
+    }
+}
+
+// Serves the words, and answers the status.
+fn serve<R: Source, W: Sink>(alloc: Global, words: &[Word], source: &mut R, sink: &mut W) -> Status
+    ensures status { HasStatus result words.now (R.seen source.old) (R.seen source.new)
+        (W.seen sink.old) (W.seen sink.new) }
+    ensures usage { words.now ≢ command_words → result ≡ status.Usage }
+{
+    match report_text(alloc, words, source) {
+        Ok(text) => write_report(sink, text.as_slice()),
+        Err(stop) => refuse(sink, stop),
     }
 }
 
@@ -64,7 +68,7 @@ fn serve<R: Source, W: Sink>(alloc: Global, words: &[Word], source: &mut R, sink
 /// - 2: the words are none that the program takes; the source was not called.
 /// - 3: the input is no script.
 /// - 4: the source failed.
-/// - 5: the sink failed, and holds a front of the report.
+/// - 5: the sink failed, and holds a prefix of the report.
 ///
 /// For 1 to 4 the sink is given one line that names the refusal; a fault of the sink there doesn't change
 /// the status.
@@ -74,14 +78,12 @@ pub fn run_words<R: Source, W: Sink>(
     source: &mut R,
     sink: &mut W,
 ) -> u8
-    ensures served { Served result words.now
-        (record { told = R.left source.old; faults = R.faults source.old }) (record { told = R.left source.new; faults = R.faults source.new })
-        (record { told = W.held sink.old; faults = W.faults sink.old }) (record { told = W.held sink.new; faults = W.faults sink.new }) }
-    ensures usage { (result ≡ 2) ↔ (words.now ≢ the_words) }
-    ensures script { result ≡ 3 → IsNoScript words.now
-        (record { told = R.left source.old; faults = R.faults source.old }) (record { told = R.left source.new; faults = R.faults source.new }) }
-    ensures read { result ≡ 4 → Rose (R.faults source.old) (R.faults source.new) }
-    ensures write { result ≡ 5 → Rose (W.faults sink.old) (W.faults sink.new) }
+    ensures code { HasExitCode result words.now (R.seen source.old) (R.seen source.new)
+        (W.seen sink.old) (W.seen sink.new) }
+    ensures usage { (result ≡ 2) ↔ (words.now ≢ command_words) }
+    ensures script { result ≡ 3 → IsNoScript words.now (R.seen source.old) (R.seen source.new) }
+    ensures read { result ≡ 4 → CountsFault (R.seen source.old) (R.seen source.new) }
+    ensures write { result ≡ 5 → CountsFault (W.seen sink.old) (W.seen sink.new) }
 {
     serve(alloc, words, source, sink).code()
 }

@@ -1,11 +1,10 @@
 //! Where a script's bytes come from.
 
-ghost use Rattle.std.specs.Prelude.{◌≡◌, ◌≤◌, ℕ, List, Option, IfOk, IfErr};
+ghost use Rattle.std.specs.Prelude.{◌≡◌, ◌≤◌, IfOk, IfErr};
 ghost use Rattle.std.specs.Io.{ReadsAtMost};
 ghost use Rattle.std.specs.Io.KnownBytes.{ReadConsumes};
-ghost use Rattle.chronmap.specs.Causes.{HasCause};
-ghost use Rattle.chronmap.specs.Stops.{CausesRead};
-ghost use Rattle.chronmap.specs.Told.{TookAll};
+ghost use Rattle.chronmap.specs.ReadStops.{CausesReadStop};
+ghost use Rattle.chronmap.specs.Streams.{StreamView, ReadsUpTo, ReportsFault};
 
 use cm_plain::{Failed, NoMemory};
 use cm_script::MAX_SCRIPT_BYTES;
@@ -13,18 +12,16 @@ use std::alloc::{AllocError, Global};
 
 /// Where bytes come from.
 pub trait Source {
-    /// The bytes that are left, where they are told.
-    ghost left: { Self → Option (List ℕ) };
-
-    /// How many calls failed; it stops at the last number of 64 bits.
-    ghost faults: { Self → ℕ };
+    /// The bytes that are left, where they are known, and how many calls failed. That count stops at the
+    /// last number of 64 bits.
+    ghost seen: { Self → StreamView };
 
     /// Moves bytes to the front of `buf`, and answers how many. For a buffer with room, 0 means that the
-    /// input has ended. `Failed` comes only where the count of faults rose.
+    /// input has ended. `Failed` comes only where a fault was counted.
     fn take(&mut self, buf: &mut [u8]) -> Result<usize, Failed>
         ensures bound { ReadsAtMost result buf.new }
-        ensures bytes { ReadConsumes (left self.old) (left self.new) result buf.new }
-        ensures cause { HasCause (faults self.old) (faults self.new) result };
+        ensures bytes { ReadConsumes (seen self.old).bytes (seen self.new).bytes result buf.new }
+        ensures faults { ReportsFault (seen self.old) (seen self.new) result };
 }
 
 /// Why the input was not read.
@@ -65,9 +62,10 @@ const PIECE: usize = 4096;
 /// Reads until the source ends, or until `MOST_TAKEN` bytes were taken. Takes memory. After a fault the
 /// bytes that were taken are lost.
 pub fn read_input<S: Source>(alloc: Global, source: &mut S) -> Result<Vec<u8>, ReadStop>
-    ensures later { S.faults source.old ≤ S.faults source.new }
-    ensures all { IfOk result (λ input. TookAll MOST_TAKEN (S.left source.old) (S.left source.new) input.items) }
-    ensures cause { IfErr result (CausesRead (S.faults source.old) (S.faults source.new)) }
+    ensures faults { (S.seen source.old).faults ≤ (S.seen source.new).faults }
+    ensures all { IfOk result
+        (λ input. ReadsUpTo MOST_TAKEN (S.seen source.old) (S.seen source.new) input.items) }
+    ensures cause { IfErr result (CausesReadStop (S.seen source.old) (S.seen source.new)) }
 {
     let mut bytes = Vec::new(alloc);
     let mut piece = [0u8; PIECE];

@@ -3,6 +3,8 @@
 ghost use Rattle.std.specs.Prelude.{◌≡◌};
 ghost use Rattle.chronmap.specs.Statuses.{code_of};
 
+use crate::stop::Stop;
+
 /// How a call of the program ended.
 #[derive(Clone, Copy, Debug, PartialEq, Eq)]
 pub enum Status {
@@ -32,6 +34,22 @@ impl Status {
             Status::Script => 3,
             Status::ReadFault => 4,
             Status::WriteFault => 5,
+        }
+    }
+}
+
+/// The status of a refusal.
+impl From<Stop> for Status {
+    ghost use Rattle.chronmap.specs.Refusals.{status_of};
+
+    ghost from_gives = { λ stop status. status ≡ status_of stop };
+
+    fn from(stop: Stop) -> Status {
+        match stop {
+            Stop::NoMemory => Status::NoMemory,
+            Stop::Usage => Status::Usage,
+            Stop::TooLong | Stop::Refused { .. } => Status::Script,
+            Stop::ReadFault => Status::ReadFault,
         }
     }
 }

@@ -3,6 +3,7 @@
 use crate::source::ReadStop;
 use cm_plain::NoMemory;
 use cm_script::{LineCause, ScriptStop};
+use std::alloc::AllocError;
 
 /// Why there is no report.
 #[derive(Clone, Copy, Debug, PartialEq, Eq)]
@@ -26,6 +27,17 @@ impl From<NoMemory> for Stop {
     ghost from_gives = { λ _ e. e ≡ stop.NoMemory };
 
     fn from(_no_memory: NoMemory) -> Stop {
+        Stop::NoMemory
+    }
+}
+
+impl From<AllocError> for Stop {
+    ghost use Rattle.std.specs.Prelude.{◌≡◌};
+    ghost use Rattle.chronmap.specs.declared.stop.Stop.TheVariants as stop;
+
+    ghost from_gives = { λ _ e. e ≡ stop.NoMemory };
+
+    fn from(_error: AllocError) -> Stop {
         Stop::NoMemory
     }
 }

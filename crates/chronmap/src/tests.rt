@@ -1,13 +1,15 @@
 //! The program over memory: its reports, its refusals, and faults in mid-stream.
 
+use crate::adapters::{StdSink, StdSource};
 use crate::memory::{SliceSource, VecSink};
-use crate::real::{StdSink, StdSource};
 use crate::serve::run_words;
 use crate::sink::{Sink, write_text};
 use crate::source::{Source, read_input};
 use crate::word::Word;
 use cm_plain::NoMemory;
 use std::alloc::Global;
+use std::io;
+use std::io::{ErrorKind, Read, Write};
 use std::test::Fail;
 
 // The words that run a script.
@@ -197,8 +199,23 @@ fn a_refusal_that_fails(rt: HostRuntime) -> Result<(), Fail> {
     Ok(())
 }
 
+// A sink that takes a whole line is called once for it.
 #[test]
-fn memory_edges(rt: HostRuntime) -> Result<(), Fail> {
+fn a_refusal_in_one_piece(rt: HostRuntime) -> Result<(), Fail> {
+    let alloc = rt.alloc();
+    let words = words(alloc, &RUN)?;
+    let mut source = SliceSource::new(b"0,frob,a,1\n", 5, Vec::new(alloc));
+    let mut sink = VecSink::new(alloc, 64, vec![in alloc; 1]?);
+    assert_eq!(rt;
+        run_words(alloc, words.as_slice(), &mut source, &mut sink),
+        3
+    );
+    assert!(rt; sink.bytes() == b"refused,script,1,op\n".as_slice());
+    Ok(())
+}
+
+#[test]
+fn streams_in_memory(rt: HostRuntime) -> Result<(), Fail> {
     let alloc = rt.alloc();
     let mut source = SliceSource::new(b"abcdefgh", 3, Vec::new(alloc));
     let input = read_input(alloc, &mut source)?;
@@ -211,7 +228,7 @@ fn memory_edges(rt: HostRuntime) -> Result<(), Fail> {
 }
 
 #[test]
-fn std_edges(rt: HostRuntime) -> Result<(), Fail> {
+fn streams_of_std(rt: HostRuntime) -> Result<(), Fail> {
     let alloc = rt.alloc();
     let mut source = StdSource::new(b"abcdefgh".as_slice());
     let input = read_input(alloc, &mut source)?;
@@ -222,5 +239,61 @@ fn std_edges(rt: HostRuntime) -> Result<(), Fail> {
     let mut sink = StdSink::new(room.as_mut_slice());
     assert!(rt; write_text(&mut sink, b"abcdefgh").is_err());
     assert!(rt; room.as_slice() == b"abcd".as_slice());
+    Ok(())
+}
+
+// A stream whose first call is interrupted by a signal.
+#[derive(Drop)]
+struct Interrupted<T> {
+    inner: T,
+    is_over: bool,
+}
+
+impl<T> Interrupted<T> {
+    fn new(inner: T) -> Interrupted<T> {
+        Interrupted {
+            inner,
+            is_over: false,
+        }
+    }
+
+    fn interrupt(&mut self) -> io::Result<()> {
+        if self.is_over {
+            return Ok(());
+        }
+        self.is_over = true;
+        Err(io::Error::from(ErrorKind::Interrupted))
+    }
+}
+
+impl<R: Read> Read for Interrupted<R> {
+    fn read(&mut self, buf: &mut [u8]) -> io::Result<usize> {
+        self.interrupt()?;
+        self.inner.read(buf)
+    }
+}
+
+impl<W: Write> Write for Interrupted<W> {
+    fn write(&mut self, buf: &[u8]) -> io::Result<usize> {
+        self.interrupt()?;
+        self.inner.write(buf)
+    }
+
+    fn flush(&mut self) -> io::Result<()> {
+        self.inner.flush()
+    }
+}
+
+#[test]
+fn interrupted_streams(rt: HostRuntime) -> Result<(), Fail> {
+    let alloc = rt.alloc();
+    let mut source = StdSource::new(Interrupted::new(b"abcdefgh".as_slice()));
+    let input = read_input(alloc, &mut source)?;
+    assert!(rt; input.as_slice() == b"abcdefgh".as_slice());
+
+    let mut room = [0u8; 8];
+    let mut sink = StdSink::new(Interrupted::new(room.as_mut_slice()));
+    write_text(&mut sink, b"abcdefgh")?;
+    assert!(rt; room.as_slice() == b"abcdefgh".as_slice());
     Ok(())
 }

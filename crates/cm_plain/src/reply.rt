@@ -38,6 +38,14 @@ impl PairList {
         PairList { pairs }
     }
 
+    /// The `Vec` again. Takes no memory.
+    pub fn into_vec(self) -> Vec<Pair>
+        ensures { result.items ≡ self }
+    {
+        let PairList { pairs } = self;
+        pairs
+    }
+
     /// How many pairs there are.
     pub fn len(&self) -> u32
         ensures { result ≡ length self.now }

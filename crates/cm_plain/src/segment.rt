@@ -7,7 +7,7 @@ use crate::entries::{put_entry, remove_key};
 use crate::op::Op;
 use crate::placed::Placed;
 use crate::reads::{kept_reply, least_key, missing_reply, sorted_pairs, unmet_reply, value_reply};
-use crate::reply::Reply;
+use crate::reply::{PairList, Reply};
 use crate::rooms::{is_new_tier, placement_of};
 use crate::stop::NoMemory;
 use cm_geo::Geo;
@@ -43,7 +43,7 @@ impl PlainSegment {
     ghost use Rattle.cm_geo.specs.Need.{Fits};
     ghost use Rattle.cm_plain.specs.Limits.{KeepsLimits, segment_of};
     ghost use Rattle.cm_plain.specs.Segments.{AnswersOp, PlacesValue, AnswersSweeps, SweepsLeast, RemovesKey};
-    ghost use Rattle.cm_plain.specs.States.{one_tier};
+    ghost use Rattle.cm_plain.specs.States.{Lists, one_tier};
 
     /// One empty tier of a segment, which took no change; the segment is one of the geometry's. Takes
     /// memory: NoMemory where none is left, and no other error.
@@ -127,6 +127,13 @@ impl PlainSegment {
         ensures { result ≡ length self.now.state.chain - 1 }
     {
         (self.chain.len() - 1) as u32
+    }
+
+    /// All pairs, in byte order of the keys. Takes memory: NoMemory where none is left, and no other error.
+    pub fn contents(&self, alloc: Global) -> Result<PairList, NoMemory>
+        ensures { IfOk result (Lists self.now.state) }
+    {
+        sorted_pairs(alloc, self.entries.as_slice())
     }
 
     /// Removes the entry of the least key with a prefix. Takes memory, before anything changes.

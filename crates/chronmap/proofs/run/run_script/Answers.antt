@@ -24,12 +24,6 @@ loop-at-preserved c =
     rw c.in_ok-push.ensures.items (ran_more c.args.geo.now c.args.script.now c.loop-at.at c.loop-at.receipts.items c.line.result.now c.loop-at.segment c.perform.new.segment
     c.in_ok-receipt.receipt c.requires.one_segment built c.line.ensures c.loop-at.invariant c.in_ok-receipt.ensures)
 
-pub final_map-requires-clause-one_segment : goal.final_map-requires-clause-one_segment
-final_map-requires-clause-one_segment c = rw c.loop-at.invariant.calls.history.geo_is c.requires.one_segment
-
-pub final_map-requires-clause-first : goal.final_map-requires-clause-first
-final_map-requires-clause-first c = c.loop-at.invariant.calls.history.segment_is
-
 pub returns : goal.returns
 returns c =
     let whole : length c.args.script.now ≤ c.loop-at.at = omega (arith, c.loop-at-test.false, c.len-at-end.ensures.value) in

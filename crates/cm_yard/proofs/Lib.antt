@@ -1,0 +1,10 @@
+pub mod Totals
+pub mod Frames
+pub mod Numbering
+pub mod Claiming
+pub mod Stopping
+pub mod Counting
+pub mod Owners
+pub mod Seating
+pub mod Finding
+pub mod Trials

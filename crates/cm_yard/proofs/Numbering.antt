@@ -1,0 +1,152 @@
+-- Numbers of seats: who is the root, what it made, and what it joined.
+use Rattle.std.proofs.Common.{◌≡◌, ◌≢◌, ℕ, zero, suc, ◌+◌, ◌<◌, ◌≤◌, List, [], ◌∷◌, ◌++◌, All, Contains, length, set, get_or, sum_by, refl, sym, ap, ◌∙◌, subst, arith}
+use Rattle.std.proofs.lemmas.List.Elements.{All-set, All-push}
+use Rattle.std.proofs.lemmas.List.Sums.{sum_by-cons, sum_by_push}
+use mathlib.Core.Logic.{dite}
+use mathlib.Core.Option.{some}
+use native.Mathlib.Decide.{ℕ_discrete}
+use lib.ListN.{get_elem?}
+use Rattle.cm_yard.specs.declared.view.View.{View}
+use Rattle.cm_yard.specs.Rule.{AreSeats, IsSeat, count_of, made_count, held_count, own_count}
+use Rattle.cm_yard.specs.Views.{child, head_or_root, spent_view, with_due, with_joined, without_due}
+use Rattle.cm_yard.specs.Ends.{AllJoined}
+use Rattle.cm_yard.proofs.Totals.{all_at, one_if, one_if_other, one_if_same, sum_alone, sum_same, sum_set, sum_two}
+
+-- how often a number is in a list with one more in front
+count_cons : (n m : ℕ) (ns : List ℕ) → count_of n (m ∷ ns) ≡ one_if m n + count_of n ns
+count_cons n m ns = sum_by-cons (λ (k : ℕ). one_if k n) m ns
+
+-- in front of which it stands itself
+count_here : (n : ℕ) (ns : List ℕ) → count_of n (n ∷ ns) ≡ 1 + count_of n ns
+count_here n ns = let c = count_cons n n ns in let i = one_if_same n n refl in omega arith
+
+-- in front of which another one stands
+count_there : (n m : ℕ) (ns : List ℕ) → m ≢ n → count_of n (m ∷ ns) ≡ count_of n ns
+count_there n m ns ne = let c = count_cons n m ns in let i = one_if_other m n ne in omega arith
+
+-- a number that is counted is in the list
+counted_there : (n : ℕ) (ns : List ℕ) → 0 < count_of n ns → Contains ns n
+counted_there n [] h = absurd (omega arith)
+counted_there n (m ∷ ns) h = dite (ℕ_discrete m n)
+    (λ e. (0, omega arith, e))
+    (λ ne. let c = count_there n m ns ne in let r = counted_there n ns (omega arith) in (suc r.0, (let l = r.1 in omega arith), r.2))
+
+-- a number in the list is counted
+there_counted : (n : ℕ) (ns : List ℕ) → Contains ns n → 0 < count_of n ns
+there_counted n [] h = let l = h.1 in absurd (omega arith)
+there_counted n (m ∷ ns) h = dite (ℕ_discrete m n)
+    (λ e. let c = count_cons n m ns in let i = one_if_same m n e in omega arith)
+    (λ ne. let c = count_there n m ns ne in let r = there_counted n ns (back h.0 h.1 h.2 ne) in omega arith)
+  where
+    back : (k : ℕ) → k < length (m ∷ ns) → get_or (m ∷ ns) k n ≡ n → m ≢ n → Contains ns n
+    back zero less is ne = absurd (ne is)
+    back (suc k) less is ne = (k, omega arith, is)
+
+-- a seat that has a number still keeps what is asked of it
+pub still_seat : (v w : View) → v.number ≢ 65 → w.number ≡ v.number → w.made ≡ v.made → w.joined ≡ v.joined → w.due ≡ v.due → IsSeat v → IsSeat w
+still_seat v w live n m j d k = record {
+  few = subst (λ (z : ℕ). z ≤ 65) (sym n) k.few;
+  only_root = λ ne. (let o = k.only_root (λ z. ne (n ∙ z)) in (m ∙ o.0, j ∙ o.1, d ∙ o.2));
+  nothing = λ z. absurd (live (sym n ∙ z));
+}
+
+-- a seat in somebody's hand isn't spent
+pub live_number : (n : ℕ) → n ≤ 64 → n ≢ 65
+live_number n few e = omega arith
+
+module _ (views : List View) (r : AreSeats views) (id : ℕ) (v : View) (at : get_elem? views id ≡ some v) where
+  -- a seat that keeps its numbers
+  pub seats_frame : (w : View) → v.number ≢ 65 → w.number ≡ v.number → w.made ≡ v.made → w.joined ≡ v.joined → w.due ≡ v.due → AreSeats (set views id w)
+  seats_frame w live n m j d = record {
+    one_root = sum_same (own_count 64) views id v w at (named 64) ∙ r.one_root;
+    once = λ k. (let t = sum_same (made_count k) views id v w at (ap (count_of k) m) in let o = r.once k in omega arith);
+    living = λ k small. sum_same (held_count k) views id v w at (has k) ∙ (r.living k small ∙ sym (sum_same (made_count k) views id v w at (ap (count_of k) m)));
+    each = All-set IsSeat views id w (still_seat v w live n m j d (all_at IsSeat views id v at r.each)) r.each;
+  }
+    where
+      named : (k : ℕ) → own_count k w ≡ own_count k v
+      named k = ap (λ (z : ℕ). one_if z k) n
+
+      has : (k : ℕ) → held_count k w ≡ held_count k v
+      has k = let a = named k in let b : count_of k w.joined ≡ count_of k v.joined = ap (count_of k) j in let c : count_of k w.due ≡ count_of k v.due = ap (count_of k) d in omega arith
+
+  -- beside the root no seat is one
+  pub others : v.number ≡ 64 → (j : ℕ) (u : View) → j ≢ id → get_elem? views j ≡ some u → u.number ≢ 64
+  others is j u ne h e =
+      let t = sum_two (own_count 64) views j id u v ne h at in
+      let o = r.one_root in let a = one_if_same v.number 64 is in let b = one_if_same u.number 64 e in
+      absurd (omega arith)
+
+  -- what all seats made is what the root made
+  made_alone : v.number ≡ 64 → (n : ℕ) → sum_by (made_count n) views ≡ made_count n v
+  made_alone is n = sum_alone (made_count n) views id v at (λ j u ne h. ap (count_of n) ((all_at IsSeat views j u h r.each).only_root (others is j u ne h)).0)
+
+  -- the root may change
+  root_seat : (w : View) → v.number ≡ 64 → w.number ≡ 64 → IsSeat w
+  root_seat w is is' = record { few = omega arith; only_root = λ ne. absurd (ne is'); nothing = λ z. absurd (omega arith) }
+
+  -- the root notes a number that it never made
+  pub seats_due : (k : ℕ) → v.number ≡ 64 → v.due ≡ [] → count_of k v.made ≡ 0 → AreSeats (set views id (with_due v k))
+  seats_due k is none_due never =
+      let w = with_due v k in record {
+        one_root = (let t = sum_set (own_count 64) views id v w at in let o = r.one_root in omega arith);
+        once = λ n. (let t = sum_set (made_count n) views id v w at in let o = r.once n in let a = made_alone is n in dite (ℕ_discrete k n)
+            (λ e. let q : count_of n v.made ≡ 0 = ap (λ (z : ℕ). count_of z v.made) (sym e) ∙ never in let c : made_count n w ≡ 1 + made_count n v = subst (λ (z : ℕ). count_of n (z ∷ v.made) ≡ 1 + count_of n v.made) (sym e) (count_here n v.made) in omega arith)
+            (λ ne. let c : made_count n w ≡ made_count n v = count_there n k v.made ne in omega arith));
+        living = λ n small.
+            (let t = sum_set (made_count n) views id v w at in let s = sum_set (held_count n) views id v w at in let o = r.living n small in
+            let d : count_of n v.due ≡ 0 = ap (count_of n) none_due in let m = count_cons n k v.made in let q = count_cons n k [] in omega arith);
+        each = All-set IsSeat views id w (root_seat w is is) r.each;
+      }
+
+  -- the root makes the seat of the number that it noted
+  pub seats_split : (k : ℕ) → v.number ≡ 64 → v.due ≡ k ∷ [] → k < 64 → AreSeats (set views id (without_due v) ++ child v ∷ [])
+  seats_split k is due small =
+      let w = without_due v in let u = child v in let mid = set views id w in
+      let un : u.number ≡ k = ap head_or_root due in
+      let child_has : (n : ℕ) → own_count n u ≡ count_of n v.due = λ n. let a : own_count n u ≡ one_if k n = ap (λ (z : ℕ). one_if z n) un in let b : count_of n v.due ≡ count_of n (k ∷ []) = ap (count_of n) due in let c = count_cons n k [] in omega arith in
+      let not_root : own_count 64 u ≡ 0 = one_if_other u.number 64 (λ e. omega arith) in record {
+        one_root = (let t = sum_set (own_count 64) views id v w at in let q = sum_by_push (own_count 64) mid u in let o = r.one_root in omega arith);
+        once = λ n. (let t = sum_set (made_count n) views id v w at in let q = sum_by_push (made_count n) mid u in let o = r.once n in omega arith);
+        living = λ n less.
+            (let t = sum_set (made_count n) views id v w at in let q = sum_by_push (made_count n) mid u in let s = sum_set (held_count n) views id v w at in let p = sum_by_push (held_count n) mid u in
+            let o = r.living n less in let c = child_has n in omega arith);
+        each = All-push IsSeat mid u (All-set IsSeat views id w (root_seat w is is) r.each) record { few = omega arith; only_root = λ _. (refl, refl, refl); nothing = λ z. absurd (omega arith) };
+      }
+
+  -- the root joins another seat
+  pub seats_join : (other : ℕ) (o : View) → v.number ≡ 64 → o.number < 64 → get_elem? views other ≡ some o → get_elem? (set views id (with_joined v o)) other ≡ some o → AreSeats (set (set views id (with_joined v o)) other spent_view)
+  seats_join other o is small there there' =
+      let w = with_joined v o in let mid = set views id w in
+      let bare = (all_at IsSeat views other o there r.each).only_root (λ e. omega arith) in
+      let no_name : (n : ℕ) → n < 65 → own_count n spent_view ≡ 0 = λ n less. one_if_other spent_view.number n (λ e. absurd (omega arith)) in
+      let not_root : own_count 64 o ≡ 0 = one_if_other o.number 64 (λ e. omega arith) in record {
+        one_root = (let t = sum_set (own_count 64) views id v w at in let q = sum_set (own_count 64) mid other o spent_view there' in let k = r.one_root in let z = no_name 64 (omega arith) in omega arith);
+        once = λ n. (let t = sum_set (made_count n) views id v w at in let q = sum_set (made_count n) mid other o spent_view there' in let m : made_count n o ≡ 0 = ap (count_of n) bare.0 in let k = r.once n in omega arith);
+        living = λ n less.
+            (let t = sum_set (made_count n) views id v w at in let q = sum_set (made_count n) mid other o spent_view there' in let m : made_count n o ≡ 0 = ap (count_of n) bare.0 in
+            let s = sum_set (held_count n) views id v w at in let p = sum_set (held_count n) mid other o spent_view there' in
+            let j : count_of n o.joined ≡ 0 = ap (count_of n) bare.1 in let d : count_of n o.due ≡ 0 = ap (count_of n) bare.2 in
+            let c = count_cons n o.number v.joined in let z = no_name n (omega arith) in let k = r.living n less in omega arith);
+        each = All-set IsSeat mid other spent_view record { few = omega arith; only_root = λ _. (refl, refl, refl); nothing = λ _. refl } (All-set IsSeat views id w (root_seat w is is) r.each);
+      }
+
+  -- where every seat that was made was joined, all others are spent
+  pub alone : v.number ≡ 64 → AllJoined v → (j : ℕ) (u : View) → j ≢ id → get_elem? views j ≡ some u → u ≡ spent_view
+  alone is all j u ne h =
+      let k = all_at IsSeat views j u h r.each in
+      k.nothing (dite (ℕ_discrete u.number 65) (λ e. e) (λ live.
+      let few = k.few in let not_root = others is j u ne h in let small : u.number < 64 = omega arith in
+      let n : ℕ = u.number in
+      let made = made_alone is n in
+      let two = sum_two (held_count n) views j id u v ne h at in
+      let o = r.living n small in
+      let m = one_if_same u.number n refl in
+      let c : 0 < count_of n v.made = omega arith in
+      let once = r.once n in
+      let there = counted_there n v.made c in
+      let joined = there_counted n v.joined (contained n v.made there all) in
+      absurd (omega arith)))
+    where
+      contained : (n : ℕ) (ns : List ℕ) → Contains ns n → All (Contains v.joined) ns → Contains v.joined n
+      contained n ns has all = subst (Contains v.joined) has.2 (all has.0 n has.1)
