@@ -1,0 +1,5 @@
+pub mod Bytes
+pub mod Headers
+pub mod Wholes
+pub mod Reading
+pub mod Refusing
