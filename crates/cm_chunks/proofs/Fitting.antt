@@ -60,7 +60,7 @@ clear_in_word geo words place chunks number word chunk has run from to = record 
 pub passed_none : (geo : Geo) (words : List ℕ) (place chunks : ℕ) → IsPassed geo words place chunks 0 0
 passed_none geo words place chunks = record { free = λ chunk not_before early. absurd (omega arith); runs = λ chunk early. absurd (omega arith) }
 
--- no run begins before the word, if the clear bits at its front are too few
+-- no run begins before the word, if its lowest clear bits are too few
 none_before : (geo : Geo) (words : List ℕ) (place chunks number before word chunk : ℕ) → IsPassed geo words place chunks number before → HasWord geo words place number word → chunks ≤ 64
     → before + trailing_zeros w64 word < chunks → chunk < 64 * number → IsFreeRun geo words place chunk chunks → ⊥
 none_before geo words place chunks number before word chunk passed has within_limit in_one_word early run =
@@ -106,7 +106,7 @@ passes_word geo words place chunks number before word passed has within_limit in
   ];
 }
 
--- the run that ends among the clear bits at the word's front is the first
+-- the run that ends among the word's lowest clear bits is the first
 pub fits_across : (geo : Geo) (words : List ℕ) (place chunks number before word : ℕ) → IsPassed geo words place chunks number before → HasWord geo words place number word
     → number < geo.chunks / 64 → before ≤ 64 * number → chunks ≤ before + trailing_zeros w64 word → IsFirstFit geo words place chunks (64 * number - before)
 fits_across geo words place chunks number before word passed has inside within_limit enough =

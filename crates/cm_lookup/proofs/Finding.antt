@@ -10,7 +10,7 @@ use Rattle.cm_plain.specs.Lawful.{KeepsSlotLaw, steps_between}
 use Rattle.cm_lookup.specs.declared.hit.Hit.{Hit}
 use Rattle.cm_lookup.specs.Probing.{HasNoHit, IsFirstEmpty, IsFirstHit, IsHit, IsPassed, probe}
 use Rattle.cm_lookup.specs.Tiers.{HasEmptySlot, ring_of}
-use Rattle.cm_lookup.proofs.RingArithmetic.{onward-way, way_below}
+use Rattle.cm_lookup.proofs.RingArithmetic.{ring_slot-ring_steps, ring_steps_below}
 use Rattle.cm_lookup.proofs.SlotWords.{half_chunk, slot_empty, slot_parts, slot_some}
 
 -- ---- by the words of the slots
@@ -110,7 +110,7 @@ pub slot_is_probe : (geo : Geo) (fingerprint number : ℕ) → number < 2 * geo.
     → (steps_between (2 * geo.chunks) (home_in geo fingerprint) number < 2 * geo.chunks) × (probe geo fingerprint (steps_between (2 * geo.chunks) (home_in geo fingerprint) number) ≡ number)
 slot_is_probe geo fingerprint number below =
     let occupied : 0 < 2 * geo.chunks = omega (arith, chunks_range geo) in
-    (way_below (ring_of geo) (home_in geo fingerprint) number occupied, onward-way (ring_of geo) (home_in geo fingerprint) number (mod-lt fingerprint occupied) below)
+    (ring_steps_below (ring_of geo) (home_in geo fingerprint) number occupied, ring_slot-ring_steps (ring_of geo) (home_in geo fingerprint) number (mod-lt fingerprint occupied) below)
 
 -- a whole round meets an empty slot
 pub round_meets : (geo : Geo) (words : List ℕ) (place fingerprint : ℕ) → HasEmptySlot geo words place → ((steps : ℕ) → steps < 2 * geo.chunks → slot_in geo words place (probe geo fingerprint steps) ≢ None) → ⊥

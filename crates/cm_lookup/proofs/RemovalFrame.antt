@@ -11,7 +11,7 @@ use Rattle.cm_lookup.specs.Shifts.{IsShift, Shift}
 use Rattle.cm_words.specs.Stores.{WordStore, after_stores}
 use Rattle.cm_lookup.specs.Shifts.Shift.{begins, stays, moves}
 use Rattle.cm_lookup.specs.Tiers.{HasEmptySlot, LostSlot, at_slots, ring_of, slot_words}
-use Rattle.cm_lookup.proofs.RingArithmetic.{onward_below}
+use Rattle.cm_lookup.proofs.RingArithmetic.{ring_slot_below}
 use Rattle.cm_lookup.proofs.Shifting.{IsTable, removed, shifting}
 use Rattle.cm_lookup.proofs.RingMembers.{still_there, stood_before}
 use Rattle.cm_lookup.proofs.ShiftEnd.{HasEnded, shift_ends}
@@ -43,12 +43,12 @@ pub shift_within : (ring : Ring) (slots : List ℕ) (slot hole steps : ℕ) (mad
 shift_within ring slots slot hole steps made nonzero begins = tt
 shift_within ring slots slot hole steps made nonzero (stays h s m shift below full stay) = shift_within ring slots slot h s m nonzero shift
 shift_within ring slots slot hole steps made nonzero (moves h s m shift below full fuse) =
-    each_append (λ (store : WordStore). store.at < ring.size) m _ (shift_within ring slots slot h s m nonzero shift) (onward_below ring slot h nonzero, tt)
+    each_append (λ (store : WordStore). store.at < ring.size) m _ (shift_within ring slots slot h s m nonzero shift) (ring_slot_below ring slot h nonzero, tt)
 
 pub whole_within : (ring : Ring) (slots : List ℕ) (slot : ℕ) (stores : List WordStore) → 0 < ring.size → IsShift ring slots slot stores → AreWithin ring.size stores
 whole_within ring slots slot stores nonzero whole =
     subst (AreWithin ring.size) (sym whole.stores_are)
-    (each_append (λ (store : WordStore). store.at < ring.size) whole.made _ (shift_within ring slots slot whole.hole whole.steps whole.made nonzero whole.shift) (onward_below ring slot whole.hole nonzero, tt))
+    (each_append (λ (store : WordStore). store.at < ring.size) whole.made _ (shift_within ring slots slot whole.hole whole.steps whole.made nonzero whole.shift) (ring_slot_below ring slot whole.hole nonzero, tt))
 
 -- they leave the head words of tiers
 pub heads_left : (geo : Geo) (words : List ℕ) (place other word : ℕ) (stores : List WordStore) → AreWithin (2 * geo.chunks) stores → word < 4

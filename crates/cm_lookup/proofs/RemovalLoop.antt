@@ -24,7 +24,7 @@ use Rattle.cm_lookup.proofs.ShiftEnd.{meets}
 use Rattle.cm_lookup.proofs.PartialShift.{at_slots_more}
 use Rattle.cm_lookup.proofs.Masks.{mask_behind, mask_between}
 use Rattle.cm_lookup.proofs.RemovalFrame.{IsTier, lost_slot, shift_within, some_in_ring, tier_is_table}
-use Rattle.cm_lookup.proofs.RingArithmetic.{onward_below}
+use Rattle.cm_lookup.proofs.RingArithmetic.{ring_slot_below}
 use Rattle.cm_lookup.proofs.Shifting.{shifting}
 use Rattle.cm_lookup.proofs.Tiers.{slot_from_first, slot_inner, slot_words_after, slot_words_at}
 use Rattle.cm_lookup.proofs.SlotWords.{slot_empty}
@@ -61,7 +61,7 @@ looked_before old now geo place slot hole steps words before at word here fitted
     ap (λ (ws : List ℕ). slot_words geo ws place) (sym came.by.leads)
     ∙ slot_words_after geo before place came.made tier.length_is tier.place_inside (shift_within (ring_of geo) (slot_words geo before place) slot hole steps came.made table.ring_is.nonzero came.shift) in
     sym (so_far.ahead steps (omega arith) below) ∙ (ap (λ (ws : List ℕ). get_or ws (slot_behind (2 * geo.chunks) slot steps) 0) (sym now_is)
-    ∙ (slot_words_at geo words place (slot_behind (2 * geo.chunks) slot steps) (onward_below (ring_of geo) slot steps table.ring_is.nonzero)
+    ∙ (slot_words_at geo words place (slot_behind (2 * geo.chunks) slot steps) (ring_slot_below (ring_of geo) slot steps table.ring_is.nonzero)
     ∙ known_word now (slot_at geo place (slot_behind (2 * geo.chunks) slot steps)) at word (slot_inner geo place (slot_behind (2 * geo.chunks) slot steps)) at_is knows words fits))
 
 -- a word that stays
@@ -214,17 +214,17 @@ pub home_by : (geo : Geo) (slots word : ℕ) → slots ≡ 2 * geo.chunks → bi
 home_by geo slots word slots_is = rw slots_is (mask_of_slots (word / 2 ^ 32) geo.chunks geo.chunks_fit)
 
 -- the code's test, by its mask
-way_test : (geo : Geo) (slots slot steps at home word : ℕ) → slots ≡ 2 * geo.chunks → at ≡ slot_behind (2 * geo.chunks) slot steps → home ≡ home_in geo (word / 2 ^ 32)
+ring_steps_test : (geo : Geo) (slots slot steps at home word : ℕ) → slots ≡ 2 * geo.chunks → at ≡ slot_behind (2 * geo.chunks) slot steps → home ≡ home_in geo (word / 2 ^ 32)
     → bit_and (at + slots - home) (slots - 1) ≡ steps_between (2 * geo.chunks) (home_in geo (word / 2 ^ 32)) (slot_behind (2 * geo.chunks) slot steps)
-way_test geo slots slot steps at home word slots_is at_is home_is = rw (slots_is, at_is, home_is) (mask_between geo (home_in geo (word / 2 ^ 32)) (slot_behind (2 * geo.chunks) slot steps))
+ring_steps_test geo slots slot steps at home word slots_is at_is home_is = rw (slots_is, at_is, home_is) (mask_between geo (home_in geo (word / 2 ^ 32)) (slot_behind (2 * geo.chunks) slot steps))
 
 pub goes_by : (geo : Geo) (slots slot hole steps at home word : ℕ) → slots ≡ 2 * geo.chunks → at ≡ slot_behind (2 * geo.chunks) slot steps → home ≡ home_in geo (word / 2 ^ 32)
     → steps ≤ bit_and (at + slots - home) (slots - 1) + hole → Stays (ring_of geo) slot hole steps word → ⊥
-goes_by geo slots slot hole steps at home word slots_is at_is home_is far stay = omega (arith, way_test geo slots slot steps at home word slots_is at_is home_is, far, stay)
+goes_by geo slots slot hole steps at home word slots_is at_is home_is far stay = omega (arith, ring_steps_test geo slots slot steps at home word slots_is at_is home_is, far, stay)
 
 pub stays_by : (geo : Geo) (slots slot hole steps at home word : ℕ) → slots ≡ 2 * geo.chunks → at ≡ slot_behind (2 * geo.chunks) slot steps → home ≡ home_in geo (word / 2 ^ 32)
     → bit_and (at + slots - home) (slots - 1) + hole < steps → Stays (ring_of geo) slot hole steps word
-stays_by geo slots slot hole steps at home word slots_is at_is home_is near = omega (arith, way_test geo slots slot steps at home word slots_is at_is home_is, near)
+stays_by geo slots slot hole steps at home word slots_is at_is home_is near = omega (arith, ring_steps_test geo slots slot steps at home word slots_is at_is home_is, near)
 
 -- in a memory that isn't guarded each store of a shift is allowed
 pub may_shift_free : (m : MemSeen) (geo : Geo) (place slot : ℕ) → m.setting.guarded ≡ false → MayShift m geo place slot

@@ -2,8 +2,8 @@
 use Rattle.std.proofs.Common.{◌≡◌, ◌≢◌, ℕ, ◌<◌, List, [], ◌∷◌, length, get_or, set, sym, subst, ap, ◌∙◌, arith, zero, suc, inl, inr, Contains, length-set, get_or-set_same, get_or-set_other}
 use Rattle.std.proofs.lemmas.Bool.{cases_eq}
 use Rattle.std.proofs.lemmas.List.Sorted.{Contains-permutation, IsPermutation-sym}
-use Rattle.cm_lookup.specs.Rings.{Ring, onward, word_behind, occupied_words}
-use Rattle.cm_lookup.proofs.RingArithmetic.{onward_below, onward_none, onward_apart}
+use Rattle.cm_lookup.specs.Rings.{Ring, ring_slot, word_behind, occupied_words}
+use Rattle.cm_lookup.proofs.RingArithmetic.{ring_slot_below, ring_slot_none, ring_slot_apart}
 use Rattle.cm_lookup.proofs.OccupiedWords.{taken_empty, taken_more, taken_none}
 use Rattle.cm_lookup.proofs.Shifting.{IsTable, Shifting}
 
@@ -51,26 +51,26 @@ word_of_slot (x ∷ slots) word has = elim (cases_eq x 0) [
 -- a word other than the removed one still stands in a slot, and not only in the hole
 pub still_there : (ring : Ring) (slots now : List ℕ) (slot hole steps number word : ℕ) → IsTable ring slots slot → Shifting ring slots slot hole steps now
     → number < ring.size → number ≢ slot → get_or slots number 0 ≡ word → word ≢ 0
-    → (other : ℕ) × (other < ring.size) × (other ≢ onward ring slot hole) × (get_or now other 0 ≡ word)
+    → (other : ℕ) × (other < ring.size) × (other ≢ ring_slot ring slot hole) × (get_or now other 0 ≡ word)
 still_there ring slots now slot hole steps number word table so_far below apart is nonzero =
     let was : Contains (occupied_words (set slots slot 0)) word = word_taken (set slots slot 0) number word (omega (arith, length-set {A = ℕ}, table.long)) (get_or-set_other slots slot number 0 0 apart ∙ is) nonzero in
-    let found : IsIn (set now (onward ring slot hole) 0) word = word_of_slot (set now (onward ring slot hole) 0) word (Contains-permutation (occupied_words (set slots slot 0)) (occupied_words (set now (onward ring slot hole) 0)) word so_far.words was) in
-    let inside : onward ring slot hole < length now = omega (arith, so_far.long, onward_below ring slot hole table.ring_is.nonzero) in
-    let differs : found.0 ≢ onward ring slot hole =
-    λ same. nonzero (sym found.2 ∙ (ap (λ (k : ℕ). get_or (set now (onward ring slot hole) 0) k 0) same ∙ get_or-set_same now (onward ring slot hole) 0 0 inside)) in
-    (found.0, omega (arith, found.1, length-set now (onward ring slot hole) 0, so_far.long), differs, sym (get_or-set_other now (onward ring slot hole) found.0 0 0 differs) ∙ found.2)
+    let found : IsIn (set now (ring_slot ring slot hole) 0) word = word_of_slot (set now (ring_slot ring slot hole) 0) word (Contains-permutation (occupied_words (set slots slot 0)) (occupied_words (set now (ring_slot ring slot hole) 0)) word so_far.words was) in
+    let inside : ring_slot ring slot hole < length now = omega (arith, so_far.long, ring_slot_below ring slot hole table.ring_is.nonzero) in
+    let differs : found.0 ≢ ring_slot ring slot hole =
+    λ same. nonzero (sym found.2 ∙ (ap (λ (k : ℕ). get_or (set now (ring_slot ring slot hole) 0) k 0) same ∙ get_or-set_same now (ring_slot ring slot hole) 0 0 inside)) in
+    (found.0, omega (arith, found.1, length-set now (ring_slot ring slot hole) 0, so_far.long), differs, sym (get_or-set_other now (ring_slot ring slot hole) found.0 0 0 differs) ∙ found.2)
 
 -- a word that stands in a slot stood in one before
 pub stood_before : (ring : Ring) (slots now : List ℕ) (slot hole steps number word : ℕ) → IsTable ring slots slot → Shifting ring slots slot hole steps now
     → number < ring.size → get_or now number 0 ≡ word → word ≢ 0
     → (other : ℕ) × (other < ring.size) × (get_or slots other 0 ≡ word)
-stood_before ring slots now slot hole steps number word table so_far below is nonzero = elim (cases_eq number (onward ring slot hole)) [
-  | inl same ↦ (onward ring slot hole, onward_below ring slot hole table.ring_is.nonzero, sym so_far.held ∙ (ap (λ (k : ℕ). get_or now k 0) (sym same) ∙ is))
+stood_before ring slots now slot hole steps number word table so_far below is nonzero = elim (cases_eq number (ring_slot ring slot hole)) [
+  | inl same ↦ (ring_slot ring slot hole, ring_slot_below ring slot hole table.ring_is.nonzero, sym so_far.held ∙ (ap (λ (k : ℕ). get_or now k 0) (sym same) ∙ is))
   | inr apart ↦
-      let stands : Contains (occupied_words (set now (onward ring slot hole) 0)) word =
-      word_taken (set now (onward ring slot hole) 0) number word (omega (arith, length-set now (onward ring slot hole) 0, so_far.long)) (get_or-set_other now (onward ring slot hole) number 0 0 apart ∙ is) nonzero in
+      let stands : Contains (occupied_words (set now (ring_slot ring slot hole) 0)) word =
+      word_taken (set now (ring_slot ring slot hole) 0) number word (omega (arith, length-set now (ring_slot ring slot hole) 0, so_far.long)) (get_or-set_other now (ring_slot ring slot hole) number 0 0 apart ∙ is) nonzero in
       let found : IsIn (set slots slot 0) word = word_of_slot (set slots slot 0) word
-      (Contains-permutation (occupied_words (set now (onward ring slot hole) 0)) (occupied_words (set slots slot 0)) word (IsPermutation-sym (occupied_words (set slots slot 0)) (occupied_words (set now (onward ring slot hole) 0)) so_far.words) stands) in
+      (Contains-permutation (occupied_words (set now (ring_slot ring slot hole) 0)) (occupied_words (set slots slot 0)) word (IsPermutation-sym (occupied_words (set slots slot 0)) (occupied_words (set now (ring_slot ring slot hole) 0)) so_far.words) stands) in
       let inside : slot < length slots = omega (arith, table.inside, table.long) in
       let differs : found.0 ≢ slot = λ same. nonzero (sym found.2 ∙ (ap (λ (k : ℕ). get_or (set slots slot 0) k 0) same ∙ get_or-set_same slots slot 0 0 inside)) in
       (found.0, omega (arith, found.1, length-set slots slot 0, table.long), sym (get_or-set_other slots slot found.0 0 0 differs) ∙ found.2)
@@ -78,9 +78,9 @@ stood_before ring slots now slot hole steps number word table so_far below is no
 
 -- behind the removed slot the hole's word is a copy: it stands in another slot too
 pub hole_copied : (ring : Ring) (slots now : List ℕ) (slot hole steps : ℕ) → IsTable ring slots slot → Shifting ring slots slot hole steps now → 0 < hole
-    → (other : ℕ) × (other < ring.size) × (other ≢ onward ring slot hole) × (get_or now other 0 ≡ word_behind ring now slot hole)
+    → (other : ℕ) × (other < ring.size) × (other ≢ ring_slot ring slot hole) × (get_or now other 0 ≡ word_behind ring now slot hole)
 hole_copied ring slots now slot hole steps table so_far behind =
-    let apart : onward ring slot hole ≢ slot =
-    λ same. onward_apart ring slot hole 0 table.inside (omega (arith, so_far.hole_before, so_far.within)) table.ring_is.nonzero (omega arith) (same ∙ sym (onward_none ring slot table.inside)) in
-    still_there ring slots now slot hole steps (onward ring slot hole) (word_behind ring now slot hole) table so_far (onward_below ring slot hole table.ring_is.nonzero) apart (sym so_far.held)
+    let apart : ring_slot ring slot hole ≢ slot =
+    λ same. ring_slot_apart ring slot hole 0 table.inside (omega (arith, so_far.hole_before, so_far.within)) table.ring_is.nonzero (omega arith) (same ∙ sym (ring_slot_none ring slot table.inside)) in
+    still_there ring slots now slot hole steps (ring_slot ring slot hole) (word_behind ring now slot hole) table so_far (ring_slot_below ring slot hole table.ring_is.nonzero) apart (sym so_far.held)
     (λ empty. so_far.seen hole behind so_far.hole_before (sym so_far.held ∙ empty))

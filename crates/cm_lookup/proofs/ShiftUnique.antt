@@ -2,7 +2,7 @@
 use Rattle.cm_words.specs.Stores.{WordStore, store_at}
 use Rattle.std.proofs.Common.{◌≡◌, ◌≢◌, ℕ, ◌+◌, ◌<◌, List, [], ◌∷◌, ◌++◌, refl, sym, ◌∙◌, subst, arith, inl, inr}
 use Rattle.std.proofs.lemmas.Bool.{cases_lt, cases_order}
-use Rattle.cm_lookup.specs.Rings.{Ring, onward, word_behind}
+use Rattle.cm_lookup.specs.Rings.{Ring, ring_slot, word_behind}
 use Rattle.cm_lookup.specs.Shifts.{IsShift, Shift, Stays}
 use Rattle.cm_lookup.specs.Shifts.Shift.{begins, stays, moves}
 
@@ -13,7 +13,7 @@ pub record CameFrom (ring : Ring) (slots : List ℕ) (slot hole steps : ℕ) (ma
   pub shift : Shift ring slots slot earlier_hole steps earlier
   pub occupied : word_behind ring slots slot steps ≢ 0
   pub stayed : Stays ring slot earlier_hole steps (word_behind ring slots slot steps) → (hole ≡ earlier_hole) × (made ≡ earlier)
-  pub went : (Stays ring slot earlier_hole steps (word_behind ring slots slot steps) → ⊥) → (hole ≡ steps) × (made ≡ earlier ++ store_at (onward ring slot earlier_hole) (word_behind ring slots slot steps) ∷ [])
+  pub went : (Stays ring slot earlier_hole steps (word_behind ring slots slot steps) → ⊥) → (hole ≡ steps) × (made ≡ earlier ++ store_at (ring_slot ring slot earlier_hole) (word_behind ring slots slot steps) ∷ [])
 
 -- every shift has begun
 begun : (ring : Ring) (slots : List ℕ) (slot hole steps : ℕ) (made : List WordStore) → Shift ring slots slot hole steps made → 0 < steps
@@ -29,7 +29,7 @@ came_from ring slots slot hole later steps made (stays h s m shift below full st
     (record { earlier_hole = h; earlier = m; shift = shift; occupied = full; stayed = λ _. (refl, refl); went = λ fuse. absurd (fuse stay) })
 came_from ring slots slot hole later steps made (moves h s m shift below full fuse) e occupied =
     let same : s ≡ steps = omega arith in
-    subst (λ (k : ℕ). CameFrom ring slots slot s k (m ++ store_at (onward ring slot h) (word_behind ring slots slot s) ∷ [])) same
+    subst (λ (k : ℕ). CameFrom ring slots slot s k (m ++ store_at (ring_slot ring slot h) (word_behind ring slots slot s) ∷ [])) same
     (record { earlier_hole = h; earlier = m; shift = shift; occupied = full; stayed = λ stay. absurd (fuse stay); went = λ _. (refl, refl) })
 
 -- no slot that was looked at was empty
@@ -65,7 +65,7 @@ same_so_far ring slots slot hole steps other_hole other_steps made other (moves 
     let ends = from.went (subst (λ (k : ℕ). Stays ring slot k s (word_behind ring slots slot s) → ⊥) same.0 fuse) in
     (sym ends.0, one_more m from.earlier h from.earlier_hole same.1 same.0 ∙ sym ends.1)
   where
-    one_more : (ms ns : List WordStore) (i j : ℕ) → ms ≡ ns → i ≡ j → ms ++ store_at (onward ring slot i) (word_behind ring slots slot s) ∷ [] ≡ ns ++ store_at (onward ring slot j) (word_behind ring slots slot s) ∷ []
+    one_more : (ms ns : List WordStore) (i j : ℕ) → ms ≡ ns → i ≡ j → ms ++ store_at (ring_slot ring slot i) (word_behind ring slots slot s) ∷ [] ≡ ns ++ store_at (ring_slot ring slot j) (word_behind ring slots slot s) ∷ []
     one_more ms ns i j p q = rw (p, q) refl
 
 -- two whole shifts of a slot make the same stores
@@ -80,5 +80,5 @@ one_shift ring slots slot a b one other = elim (cases_order one.steps other.step
   ]
 ]
   where
-    last : (ms ns : List WordStore) (i j : ℕ) → ms ≡ ns → i ≡ j → ms ++ store_at (onward ring slot i) 0 ∷ [] ≡ ns ++ store_at (onward ring slot j) 0 ∷ []
+    last : (ms ns : List WordStore) (i j : ℕ) → ms ≡ ns → i ≡ j → ms ++ store_at (ring_slot ring slot i) 0 ∷ [] ≡ ns ++ store_at (ring_slot ring slot j) 0 ∷ []
     last ms ns i j p q = rw (p, q) refl

@@ -2,11 +2,11 @@
 use Rattle.std.proofs.Common.{◌≡◌, ◌≢◌, ℕ, ◌+◌, ◌<◌, ◌≤◌, List, [], ◌∷◌, ◌++◌, length, get_or, set, refl, sym, subst, ap, ◌∙◌, arith, inl, inr, IsPermutation, set-set, length-set, get_or-set_same, get_or-set_other}
 use Rattle.std.proofs.lemmas.Bool.{cases_lt}
 use Rattle.std.proofs.lemmas.List.Sorted.{IsPermutation-refl, IsPermutation-trans, IsPermutation-cons}
-use Rattle.cm_lookup.specs.Rings.{Ring, IsRing, KeepsLaw, onward, word_behind, occupied_words}
+use Rattle.cm_lookup.specs.Rings.{Ring, IsRing, KeepsLaw, ring_slot, word_behind, occupied_words}
 use Rattle.cm_lookup.specs.Shifts.{IsShift, Shift, Stays}
 use Rattle.cm_words.specs.Stores.{WordStore, after_stores, store_at}
 use Rattle.cm_lookup.specs.Shifts.Shift.{begins, stays, moves}
-use Rattle.cm_lookup.proofs.RingArithmetic.{onward_below, onward_none, onward_apart}
+use Rattle.cm_lookup.proofs.RingArithmetic.{ring_slot_below, ring_slot_none, ring_slot_apart}
 use Rattle.cm_lookup.proofs.HoleLaw.{KeepsLawBut, law_ends, law_moves}
 use Rattle.cm_lookup.proofs.OccupiedWords.{taken_off, taken_moved}
 
@@ -29,9 +29,9 @@ pub record Shifting (ring : Ring) (slots : List ℕ) (slot hole steps : ℕ) (no
   -- in the hole stands the word that stood there before
   pub held : word_behind ring now slot hole ≡ word_behind ring slots slot hole
   -- where the slot law held, it holds but for the hole
-  pub law : KeepsLaw ring slots → KeepsLawBut ring now (onward ring slot hole)
+  pub law : KeepsLaw ring slots → KeepsLawBut ring now (ring_slot ring slot hole)
   -- the other words are those of the other slots before
-  pub words : IsPermutation (occupied_words (set slots slot 0)) (occupied_words (set now (onward ring slot hole) 0))
+  pub words : IsPermutation (occupied_words (set slots slot 0)) (occupied_words (set now (ring_slot ring slot hole) 0))
 
 -- a slot of a ring of slots
 pub record IsTable (ring : Ring) (slots : List ℕ) (slot : ℕ) : Type 0 where
@@ -42,7 +42,7 @@ pub record IsTable (ring : Ring) (slots : List ℕ) (slot : ℕ) : Type 0 where
 -- before the first step
 shifting_begins : (ring : Ring) (slots : List ℕ) (slot : ℕ) → IsTable ring slots slot → Shifting ring slots slot 0 1 slots
 shifting_begins ring slots slot table =
-    let here : onward ring slot 0 ≡ slot = onward_none ring slot table.inside in
+    let here : ring_slot ring slot 0 ≡ slot = ring_slot_none ring slot table.inside in
     record {
       hole_before = omega arith;
       within = table.ring_is.nonzero;
@@ -90,24 +90,24 @@ words_moved now hole left word hole_below left_below apart is nonzero =
 -- a word that moves to the hole
 shifting_moves : (ring : Ring) (slots : List ℕ) (slot hole steps : ℕ) (now : List ℕ) → IsTable ring slots slot → Shifting ring slots slot hole steps now → steps < ring.size
     → word_behind ring slots slot steps ≢ 0 → (Stays ring slot hole steps (word_behind ring slots slot steps) → ⊥)
-    → Shifting ring slots slot steps (steps + 1) (set now (onward ring slot hole) (word_behind ring slots slot steps))
+    → Shifting ring slots slot steps (steps + 1) (set now (ring_slot ring slot hole) (word_behind ring slots slot steps))
 shifting_moves ring slots slot hole steps now table so_far below nonzero fuse =
     let same : word_behind ring now slot steps ≡ word_behind ring slots slot steps = so_far.ahead steps (omega arith) below in
-    let hole_below : onward ring slot hole < ring.size = onward_below ring slot hole table.ring_is.nonzero in
-    let left_below : onward ring slot steps < ring.size = onward_below ring slot steps table.ring_is.nonzero in
-    let hole_apart : (other : ℕ) → hole < other → other < ring.size → onward ring slot other ≢ onward ring slot hole =
-    λ other from other_below. onward_apart ring slot other hole table.inside other_below (omega arith) (omega arith) in
+    let hole_below : ring_slot ring slot hole < ring.size = ring_slot_below ring slot hole table.ring_is.nonzero in
+    let left_below : ring_slot ring slot steps < ring.size = ring_slot_below ring slot steps table.ring_is.nonzero in
+    let hole_apart : (other : ℕ) → hole < other → other < ring.size → ring_slot ring slot other ≢ ring_slot ring slot hole =
+    λ other from other_below. ring_slot_apart ring slot other hole table.inside other_below (omega arith) (omega arith) in
     record {
       hole_before = omega arith;
       within = omega arith;
-      long = length-set now (onward ring slot hole) (word_behind ring slots slot steps) ∙ so_far.long;
-      ahead = λ other from other_below. get_or-set_other now (onward ring slot hole) (onward ring slot other) _ 0 (hole_apart other (omega (arith, so_far.hole_before)) other_below) ∙ so_far.ahead other (omega arith) other_below;
+      long = length-set now (ring_slot ring slot hole) (word_behind ring slots slot steps) ∙ so_far.long;
+      ahead = λ other from other_below. get_or-set_other now (ring_slot ring slot hole) (ring_slot ring slot other) _ 0 (hole_apart other (omega (arith, so_far.hole_before)) other_below) ∙ so_far.ahead other (omega arith) other_below;
       seen = one_more (λ other. word_behind ring slots slot other ≢ 0) 0 steps so_far.seen nonzero;
       near = λ other from other_below. absurd (omega arith);
-      held = get_or-set_other now (onward ring slot hole) (onward ring slot steps) _ 0 (hole_apart steps so_far.hole_before below) ∙ same;
+      held = get_or-set_other now (ring_slot ring slot hole) (ring_slot ring slot steps) _ 0 (hole_apart steps so_far.hole_before below) ∙ same;
       law = λ law. law_moves ring now slot hole steps (word_behind ring slots slot steps) table.ring_is table.inside so_far.long so_far.hole_before below same nonzero fuse (so_far.law law);
       words = IsPermutation-trans _ _ _ so_far.words
-          (words_moved now (onward ring slot hole) (onward ring slot steps) (word_behind ring slots slot steps) (omega (arith, so_far.long)) (omega (arith, so_far.long)) (hole_apart steps so_far.hole_before below) same nonzero);
+          (words_moved now (ring_slot ring slot hole) (ring_slot ring slot steps) (word_behind ring slots slot steps) (omega (arith, so_far.long)) (omega (arith, so_far.long)) (hole_apart steps so_far.hole_before below) same nonzero);
     }
 
 -- the shift keeps it all
@@ -117,13 +117,13 @@ shifting ring slots slot hole steps made table begins = shifting_begins ring slo
 shifting ring slots slot hole steps made table (stays h s m shift below nonzero stay) =
     shifting_stays ring slots slot h s (after_stores slots m) (shifting ring slots slot h s m table shift) below nonzero stay
 shifting ring slots slot hole steps made table (moves h s m shift below nonzero fuse) =
-    subst (λ (now : List ℕ). Shifting ring slots slot s (s + 1) now) (sym (after_one_more slots m (onward ring slot h) (word_behind ring slots slot s)))
+    subst (λ (now : List ℕ). Shifting ring slots slot s (s + 1) now) (sym (after_one_more slots m (ring_slot ring slot h) (word_behind ring slots slot s)))
     (shifting_moves ring slots slot h s (after_stores slots m) table (shifting ring slots slot h s m table shift) below nonzero fuse)
 
 -- after a whole shift the words are those of the other slots before
 pub rearranged : (ring : Ring) (slots : List ℕ) (slot : ℕ) (stores : List WordStore) → IsTable ring slots slot → IsShift ring slots slot stores → IsPermutation (occupied_words (set slots slot 0)) (occupied_words (after_stores slots stores))
 rearranged ring slots slot stores table whole =
-    subst (λ (now : List ℕ). IsPermutation (occupied_words (set slots slot 0)) (occupied_words now)) (sym (ap (after_stores slots) whole.stores_are ∙ after_one_more slots whole.made (onward ring slot whole.hole) 0))
+    subst (λ (now : List ℕ). IsPermutation (occupied_words (set slots slot 0)) (occupied_words now)) (sym (ap (after_stores slots) whole.stores_are ∙ after_one_more slots whole.made (ring_slot ring slot whole.hole) 0))
     (shifting ring slots slot whole.hole whole.steps whole.made table whole.shift).words
 
 -- what a whole shift leaves
@@ -137,9 +137,9 @@ pub removed : (ring : Ring) (slots : List ℕ) (slot : ℕ) (stores : List WordS
 removed ring slots slot stores table nonzero law whole =
     let so_far = shifting ring slots slot whole.hole whole.steps whole.made table whole.shift in
     let empty : word_behind ring (after_stores slots whole.made) slot whole.steps ≡ 0 = so_far.ahead whole.steps (omega arith) whole.within ∙ whole.empty in
-    subst (λ (now : List ℕ). Removed ring slots slot now) (sym (ap (after_stores slots) whole.stores_are ∙ after_one_more slots whole.made (onward ring slot whole.hole) 0))
+    subst (λ (now : List ℕ). Removed ring slots slot now) (sym (ap (after_stores slots) whole.stores_are ∙ after_one_more slots whole.made (ring_slot ring slot whole.hole) 0))
     (record {
-      long = length-set (after_stores slots whole.made) (onward ring slot whole.hole) 0 ∙ so_far.long;
+      long = length-set (after_stores slots whole.made) (ring_slot ring slot whole.hole) 0 ∙ so_far.long;
       law = law_ends ring (after_stores slots whole.made) slot whole.hole whole.steps table.ring_is table.inside so_far.long so_far.hole_before whole.within so_far.near empty (so_far.law law);
       words = IsPermutation-trans _ _ _ (taken_off slots slot (get_or slots slot 0) (omega (arith, table.inside, table.long)) refl nonzero) (IsPermutation-cons (get_or slots slot 0) _ _ so_far.words);
     })

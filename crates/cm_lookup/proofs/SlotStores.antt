@@ -11,9 +11,9 @@ use Rattle.cm_geo.proofs.Unchanged.{slot_kept_by_bits, slot_kept_by_chunk_word, 
 use Rattle.cm_plain.specs.Slots.{Slot, slot_in, slot_of_word}
 use Rattle.cm_plain.specs.Lawful.{KeepsSlotLaw, steps_between}
 use Rattle.cm_lookup.specs.Probing.{IsFirstEmpty, probe}
-use Rattle.cm_lookup.specs.Rings.{Ring, KeepsLaw, way, word_behind, occupied_words}
+use Rattle.cm_lookup.specs.Rings.{Ring, KeepsLaw, ring_steps, word_behind, occupied_words}
 use Rattle.cm_lookup.specs.Tiers.{ring_of, slot_word, slot_words}
-use Rattle.cm_lookup.proofs.RingArithmetic.{way-onward}
+use Rattle.cm_lookup.proofs.RingArithmetic.{ring_steps-ring_slot}
 use Rattle.cm_lookup.proofs.OccupiedWords.{taken_off}
 use Rattle.cm_lookup.proofs.Finding.{probe_below}
 use Rattle.cm_lookup.proofs.Tiers.{law_of_ring, law_of_tier, slot_words_at, slot_words_long, slot_words_set}
@@ -62,11 +62,11 @@ slot_put geo words place number fingerprint chunk length_is place_below below ch
 
 -- in a ring, at a slot to which no slot from the word's home on is empty
 law_put : (ring : Ring) (slots : List ℕ) (at word : ℕ) → at < length slots → word ≢ 0 → KeepsLaw ring slots
-    → ((steps : ℕ) → steps < way ring (ring.home word) at → word_behind ring slots (ring.home word) steps ≢ 0) → KeepsLaw ring (set slots at word)
+    → ((steps : ℕ) → steps < ring_steps ring (ring.home word) at → word_behind ring slots (ring.home word) steps ≢ 0) → KeepsLaw ring (set slots at word)
 law_put ring slots at word inside nonzero law reached number other below is other_some steps on_way = elim (cases_eq number at) [
   | inl same ↦
       let word_is : other ≡ word = sym is ∙ (ap (λ (k : ℕ). get_or (set slots at word) k 0) same ∙ get_or-set_same slots at word 0 inside) in
-      let on_it : steps < way ring (ring.home word) at = subst (λ (k : ℕ). steps < way ring (ring.home word) k) same (subst (λ (w : ℕ). steps < way ring (ring.home w) number) word_is on_way) in
+      let on_it : steps < ring_steps ring (ring.home word) at = subst (λ (k : ℕ). steps < ring_steps ring (ring.home word) k) same (subst (λ (w : ℕ). steps < ring_steps ring (ring.home w) number) word_is on_way) in
       subst (λ (w : ℕ). word_behind ring (set slots at word) (ring.home w) steps ≢ 0) (sym word_is) (still (ring.home word) (reached steps on_it))
   | inr apart ↦ still (ring.home other) (law number other below (sym (get_or-set_other slots at number word 0 apart) ∙ is) other_some steps on_way)
 ]
@@ -101,11 +101,11 @@ slot_law_put_first geo words place number fingerprint chunk length_is place_belo
     let nonzero : 0 < 2 * geo.chunks = omega (arith, chunks_range geo) in
     let below : number < 2 * geo.chunks = subst (λ (k : ℕ). k < 2 * geo.chunks) (sym first.slot_is) (probe_below geo fingerprint first.steps) in
     let upper : slot_word fingerprint chunk / 2 ^ 32 ≡ fingerprint = upper_of_slot_word geo fingerprint chunk chunk_below in
-    let way_is : steps_between (2 * geo.chunks) (home_in geo fingerprint) number ≡ first.steps =
-    ap (steps_between (2 * geo.chunks) (home_in geo fingerprint)) first.slot_is ∙ way-onward (ring_of geo) (home_in geo fingerprint) first.steps (mod-lt fingerprint nonzero) first.inside in
+    let ring_steps_is : steps_between (2 * geo.chunks) (home_in geo fingerprint) number ≡ first.steps =
+    ap (steps_between (2 * geo.chunks) (home_in geo fingerprint)) first.slot_is ∙ ring_steps-ring_slot (ring_of geo) (home_in geo fingerprint) first.steps (mod-lt fingerprint nonzero) first.inside in
     slot_law_put geo words place number (slot_word fingerprint chunk) length_is place_below below (omega arith) law
     (subst (λ (f : ℕ). (steps : ℕ) → steps < steps_between (2 * geo.chunks) (home_in geo f) number → slot_in geo words place (probe geo f steps) ≢ None) (sym upper)
-    (λ steps on_way. first.before steps (omega (arith, on_way, way_is))))
+    (λ steps on_way. first.before steps (omega (arith, on_way, ring_steps_is))))
 
 -- over a slot of the same fingerprint
 pub slot_law_put_over : (geo : Geo) (words : List ℕ) (place number fingerprint chunk : ℕ) (slot : Slot) → length words ≡ words_in_segment geo → place < geo.tiers → number < 2 * geo.chunks → chunk < geo.chunks → KeepsSlotLaw geo words place

@@ -1,4 +1,5 @@
--- Probing a tier (own): from the home of a fingerprint upwards, and from the last slot to the first.
+-- Linear probing of a tier (after Chronicle Map; the direction is own): from the home of a fingerprint upwards, and from the last slot to the
+-- first.
 use Rattle.std.specs.Prelude.{ℕ, ◌≡◌, ◌≢◌, ◌+◌, ◌*◌, ◌/◌, ◌%◌, ◌^◌, ◌<◌, ◌≤◌, List, Option, None, Some, MatchOption}
 use Rattle.cm_geo.specs.declared.geo.Geo.{Geo}
 use Rattle.cm_geo.specs.Hash.{home_in}

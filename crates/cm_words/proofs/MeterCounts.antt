@@ -1,4 +1,4 @@
--- How counts and told numbers go on from one call to the next.
+-- How counts and budgets go on from one call to the next.
 use Rattle.std.proofs.Common.{◌≡◌, ℕ, ◌+◌, ◌≤◌, ◌∙◌, Some, None, Option, arith, refl, subst, Ok, Err}
 use Rattle.std.specs.declared.result.Result.{Result}
 use Rattle.cm_words.specs.declared.fuse.Admit.TheVariants.{Go, Die}

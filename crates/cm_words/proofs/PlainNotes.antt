@@ -80,7 +80,7 @@ notes_finished old now geo start number present first inside long small twice wa
       here = rw (after, get_or-set_same) refl;
     }
 
--- a plan that isn't told isn't under way, and one that is told is
+-- where no plan is seen none is under way, and where one is seen one is
 pub no_plan : (is_under_way : Bool) (plan : PlanCopy) → plan_under_way is_under_way plan ≡ None → is_under_way ≡ false
 no_plan false plan e = refl
 no_plan true plan e = absurd (clash (copied_change plan) e)

@@ -10,13 +10,13 @@ pub data Budget : Type 0 where
   stores : ℕ → Budget
   events : ℕ → Budget
 
--- whether a fuse can die, how often it died, and the number that it tells, if any
+-- whether a fuse can die, how often it died, and its budget, if it tells one
 pub record FuseSeen : Type 0 where
   pub can_die : Bool
   pub deaths : ℕ
   pub budget : Option Budget
 
--- an event of this kind counts for the number
+-- an event of this kind counts for the budget
 abbrev pub CountsFor : EventKind → Budget → Type 0
 CountsFor kind (events left) = Unit {0}
 CountsFor Store (stores left) = Unit {0}
@@ -29,19 +29,19 @@ stores_in Store = 1
 stores_in Load = 0
 stores_in Exchange = 0
 
--- the number before and after events were admitted that raised the counts of events and of stores from these to those
+-- the budget before and after events were admitted that raised the counts of events and of stores from these to those
 abbrev pub CountsDown : ℕ → ℕ → ℕ → ℕ → Option Budget → Option Budget → Type 0
 CountsDown e s later_e later_s None now = now ≡ None
 CountsDown e s later_e later_s (Some (stores before)) now = (left : ℕ) × (left + later_s ≡ before + s) × (now ≡ Some (stores left))
 CountsDown e s later_e later_s (Some (events before)) now = (left : ℕ) × (left + later_e ≡ before + e) × (now ≡ Some (events left))
 
--- the number before these counts rose so, where the next event died: it was used up. None is told after a death
+-- the budget before these counts rose so, where the next event died: it was used up. No budget is told after a death
 abbrev pub IsUsedUp : ℕ → ℕ → ℕ → ℕ → Option Budget → Option Budget → Type 0
 IsUsedUp e s later_e later_s None now = now ≡ None
 IsUsedUp e s later_e later_s (Some (stores before)) now = (later_s ≡ before + s) × (now ≡ None)
 IsUsedUp e s later_e later_s (Some (events before)) now = (later_e ≡ before + e) × (now ≡ None)
 
--- the number before an event of this kind that was admitted, or that died, and after it
+-- the budget before an event of this kind that was admitted, or that died, and after it
 abbrev pub SpendsBudget : EventKind → Admit → Option Budget → Option Budget → Type 0
 SpendsBudget kind Go before now = CountsDown 0 0 1 (stores_in kind) before now
 SpendsBudget kind Die None now = now ≡ None

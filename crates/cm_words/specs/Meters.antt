@@ -37,7 +37,7 @@ pub record ReportsDeath {T E : Type 0} (old now : MeterSeen) (result : Result T 
   pub survives : OnOk result (Survives old now)
   pub killed : OnErr result (IsKilled old now)
 
--- an event of this kind counts for the number that is told, if one is
+-- an event of this kind counts for the budget, if the fuse tells one
 abbrev pub CountsForBudget : EventKind → Option Budget → Type 0
 CountsForBudget kind None = Unit {0}
 CountsForBudget kind (Some budget) = CountsFor kind budget

@@ -41,7 +41,8 @@ pub trait Mem {
     /// Sets the word at an address behind the lock word and the change number; all others stay.
     ///
     /// A guarded memory is stored in under a plan alone, and each store has to leave the words torn for
-    /// this plan, so that recovery finds the state before or after it.
+    /// this plan, so that recovery finds the state before or after it; where a value was replaced in place, it
+    /// may also find the key absent, or a value whose checksum is by chance the old one.
     fn store(&mut self, at: u32, word: u64) -> Result<(), Dead>
         requires writable { (seen self.old).setting.access ≡ Writable }
         requires in_range { at < words_in_segment (seen self.old).setting.geo }
