@@ -3,7 +3,7 @@ use Rattle.std.proofs.Common.{◌≡◌, ℕ, ◌+◌, ◌-◌, ◌*◌, ◌<◌
 use Rattle.std.specs.Int.{to_le_bytes, w64}
 use Rattle.std.specs.List.{slice_range}
 use Rattle.std.proofs.lemmas.Bool.{cases_lt}
-use Rattle.std.proofs.lemmas.List.{drop_at, length-take-le, take_all, take_rest, take-append-drop}
+use Rattle.std.proofs.lemmas.List.{drop_at, length-take-le, take_all, take-append-drop}
 use Rattle.std.proofs.Math.Seq.{take-append-add}
 use Rattle.cm_geo.specs.Addresses.{words_in_segment}
 use Rattle.cm_geo.specs.Need.{parts_for}
@@ -113,16 +113,16 @@ same_all m span bytes count same all len_is words fits =
     (λ _. ap (λ (n : ℕ). bytes_from words span.at span.len n) (sym all) ∙ (same words fits ∙ take_all (8 * count) bytes (omega arith)), λ _. refl)
 
 -- the rest of a list behind its whole words
-rest_part : (span : Span) (bytes : List ℕ) → length bytes ≡ span.len → 0 < span.len % 8 → IsPart span bytes (span.len / 8) (8 * (span.len / 8)) (length bytes) (drop (8 * (span.len / 8)) bytes)
-rest_part span bytes len_is some = record { len_is = len_is; below = omega arith; from_is = refl; to_is = omega (arith, len_is); part_is = sym (take_rest bytes (8 * (span.len / 8))) }
+rest_part : (span : Span) (bytes : List ℕ) → length bytes ≡ span.len → 0 < span.len % 8 → IsPart span bytes (span.len / 8) (8 * (span.len / 8)) (length bytes) (slice_range bytes (8 * (span.len / 8)) (length bytes))
+rest_part span bytes len_is some = record { len_is = len_is; below = omega arith; from_is = refl; to_is = omega (arith, len_is); part_is = refl }
 
 -- it decides, where all whole words are those of the list
 pub decides_same : (a b : MemSeen) (span : Span) (bytes : List ℕ) (count word : ℕ) (result : Bool) → EqualSoFar a span bytes count → count ≡ span.len / 8 → 0 < span.len % 8 → length bytes ≡ span.len → Reads a b → Knows b (span.at + span.len / 8) word
-    → 1 < span.at → span.at + parts_for 8 span.len ≤ words_in_segment b.setting.geo → IsTrue result ↔ (take (length (drop (8 * (span.len / 8)) bytes)) (to_le_bytes w64 word) ≡ drop (8 * (span.len / 8)) bytes)
+    → 1 < span.at → span.at + parts_for 8 span.len ≤ words_in_segment b.setting.geo → IsTrue result ↔ (take (length (slice_range bytes (8 * (span.len / 8)) (length bytes))) (to_le_bytes w64 word) ≡ slice_range bytes (8 * (span.len / 8)) (length bytes))
     → (words : List ℕ) → FitsNotes b words → IsTrue result ↔ (bytes_in words span ≡ bytes)
 decides_same a b span bytes count word true same whole some len_is reads knows inner within begins =
     same_all b span bytes (span.len / 8 + 1)
-    (same_more a b span bytes (drop (8 * (span.len / 8)) bytes) (span.len / 8) (8 * (span.len / 8)) (length bytes) word (subst (λ (n : ℕ). EqualSoFar a span bytes n) whole same) reads knows inner within (rest_part span bytes len_is some) (begins.0 refl))
+    (same_more a b span bytes (slice_range bytes (8 * (span.len / 8)) (length bytes)) (span.len / 8) (8 * (span.len / 8)) (length bytes) word (subst (λ (n : ℕ). EqualSoFar a span bytes n) whole same) reads knows inner within (rest_part span bytes len_is some) (begins.0 refl))
     (omega arith) len_is
 decides_same a b span bytes count word false same whole some len_is reads knows inner within begins =
-    differs a b span bytes (drop (8 * (span.len / 8)) bytes) (span.len / 8) (8 * (span.len / 8)) (length bytes) word (subst (λ (n : ℕ). EqualSoFar a span bytes n) whole same) reads knows inner within (rest_part span bytes len_is some) (λ e. never (begins.1 e))
+    differs a b span bytes (slice_range bytes (8 * (span.len / 8)) (length bytes)) (span.len / 8) (8 * (span.len / 8)) (length bytes) word (subst (λ (n : ℕ). EqualSoFar a span bytes n) whole same) reads knows inner within (rest_part span bytes len_is some) (λ e. never (begins.1 e))

@@ -26,7 +26,7 @@ pub(crate) fn halves(head: u64) -> (u32, u32)
 /// The lengths of the key and of the value of the entry at a chunk: the halves of its first word,
 /// whatever stands there.
 pub fn lengths<M: Mem>(mem: &mut M, geo: &Geo, place: u32, chunk: u32) -> Result<(u32, u32), Dead>
-    requires { IsReadableChunk (M.seen mem.old) geo.now place chunk }
+    requires readable { IsReadableChunk (M.seen mem.old) geo.now place chunk }
     ensures loads { LoadsOnce M.seen M.same_rest mem.old mem.new result }
     ensures lengths { IfOk result (λ lengths. (words : List ℕ) → FitsNotes (M.seen mem.new) words
         → AreLengthsAt geo.now words place chunk lengths.0 lengths.1) }

@@ -17,8 +17,8 @@ hash_words_at-requires g c = record {
 pub returns-in_err-key : goal.returns-in_err-key
 returns-in_err-key g c = answer_err_as g.M.Mem.seen g.M.Mem.same_rest _ c.hash_words_at.new.mem _ c.from_residual.result c.from_residual.ensures.0 c.in_err-key.ensures.counted.loads _ _
 
-pub overflow_add-at : goal.overflow_add-at
-overflow_add-at g c = omega (arith, segment_limit (g.M.Mem.seen c.args.mem.now).setting.geo, c.requires.inside)
+pub overflow_add-value_span : goal.overflow_add-value_span
+overflow_add-value_span g c = omega (arith, segment_limit (g.M.Mem.seen c.args.mem.now).setting.geo, c.requires.inside)
 
 pub hash_words_at-requires-2 : goal.hash_words_at-requires-2
 hash_words_at-requires-2 g c =

@@ -60,7 +60,7 @@ returns-clause-loads g c = record {
 
 pub returns-clause-same : goal.returns-clause-same
 returns-clause-same g c =
-    decides_same (g.M.Mem.seen c.loop-i.mem) (g.M.Mem.seen c.load-2.new.self) c.args.span c.args.bytes.now c.loop-i.i c.in_ok-last.last c.word_begins.result
+    decides_same (g.M.Mem.seen c.loop-i.mem) (g.M.Mem.seen c.load-2.new.self) c.args.span c.args.bytes.now c.loop-i.i c.in_ok-last.last c.word_begins-2.result
     c.loop-i.invariant.same (omega arith) (omega arith) c.if-bytes-span.false c.in_ok-last.ensures.loads.call.done c.in_ok-last.ensures.word c.requires.inside.inner
     (inside_kept (g.M.Mem.seen c.args.mem.now) (g.M.Mem.seen c.loop-i.mem) (g.M.Mem.seen c.load-2.new.self) c.args.span c.loop-i.invariant.loaded.done c.in_ok-last.ensures.loads.call.done c.requires.inside)
-    c.word_begins.ensures
+    c.word_begins-2.ensures

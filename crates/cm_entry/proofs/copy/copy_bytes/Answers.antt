@@ -36,12 +36,12 @@ returns-clause-copied g c = record {
     loads = loads_more_ok g.M.Mem.seen g.M.Mem.same_rest _ c.loop-i.mem c.load-2.new.self _ _ (g.met.M.Mem.rest_transitive _ _ _) c.loop-i.invariant.loaded c.in_ok-last.ensures.loads;
     count = omega (arith, c.loop-i.invariant.events, c.in_ok-last.ensures.loads.event.events);
   };
-  answer = copied_rest (g.M.Mem.seen c.loop-i.mem) (g.M.Mem.seen c.load-2.new.self) c.args.span c.loop-i.out c.copy_from_slice.new.self c.to_le_bytes.result c.loop-i.i c.in_ok-last.last
+  answer = copied_rest (g.M.Mem.seen c.loop-i.mem) (g.M.Mem.seen c.load-2.new.self) c.args.span c.loop-i.out c.copy_from_slice-2.new.self c.to_le_bytes-2.result c.loop-i.i c.in_ok-last.last
       c.loop-i.invariant.copied (omega arith) (omega arith) c.in_ok-last.ensures.loads.call.done c.in_ok-last.ensures.word c.requires.span.inside.inner
       (inside_kept (g.M.Mem.seen c.args.mem.now) (g.M.Mem.seen c.loop-i.mem) (g.M.Mem.seen c.load-2.new.self) c.args.span c.loop-i.invariant.loaded.done c.in_ok-last.ensures.loads.call.done c.requires.span.inside)
-      (omega arith) c.to_le_bytes.ensures c.copy_from_slice.ensures.after;
+      (omega arith) c.to_le_bytes-2.ensures c.copy_from_slice-2.ensures.after;
 }
 
 pub returns-clause-behind : goal.returns-clause-behind
 returns-clause-behind g c =
-    rest_last c.loop-i.out c.copy_from_slice.new.self c.to_le_bytes.result (8 * (c.args.span.len / 8)) (c.args.span.len % 8) c.args.span.len c.in_ok-last.last (omega arith) (omega arith) (omega arith) c.to_le_bytes.ensures c.copy_from_slice.ensures.after ∙ c.loop-i.invariant.behind
+    rest_last c.loop-i.out c.copy_from_slice-2.new.self c.to_le_bytes-2.result (8 * (c.args.span.len / 8)) (c.args.span.len % 8) c.args.span.len c.in_ok-last.last (omega arith) (omega arith) (omega arith) c.to_le_bytes-2.ensures c.copy_from_slice-2.ensures.after ∙ c.loop-i.invariant.behind

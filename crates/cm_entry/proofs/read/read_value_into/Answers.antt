@@ -15,7 +15,7 @@ returns-in_err-span-clause-loads g c =
     (loads_once_err g.M.Mem.seen g.M.Mem.same_rest _ c.value_span.new.mem _ c.from_residual.result c.from_residual.ensures.0 c.in_err-span.ensures.loads) _
 
 pub returns-in_err-span-clause-behind : goal.returns-in_err-span-clause-behind
-returns-in_err-span-clause-behind g c = keeps_rest_err _ c.args.out.now _ c.from_residual.result c.from_residual.ensures.0 refl
+returns-in_err-span-clause-behind g c = keeps_rest_err 4096 c.args.out.now _ c.from_residual.result c.from_residual.ensures.0 refl
 
 pub returns-in_err-copy_bytes-clause-loads : goal.returns-in_err-copy_bytes-clause-loads
 returns-in_err-copy_bytes-clause-loads g c =
@@ -25,8 +25,8 @@ returns-in_err-copy_bytes-clause-loads g c =
 
 pub returns-in_err-copy_bytes-clause-behind : goal.returns-in_err-copy_bytes-clause-behind
 returns-in_err-copy_bytes-clause-behind g c =
-    keeps_rest_err _ c.args.out.now c.copy_bytes.new.out c.from_residual-in_err-copy_bytes.result c.from_residual-in_err-copy_bytes.ensures.0
-    (rest_behind c.args.out.now c.copy_bytes.new.out c.in_ok-span.span.len _ c.in_ok-span.ensures.span.within_limit c.copy_bytes.ensures.behind)
+    keeps_rest_err 4096 c.args.out.now c.copy_bytes.new.out c.from_residual-in_err-copy_bytes.result c.from_residual-in_err-copy_bytes.ensures.0
+    (rest_behind c.args.out.now c.copy_bytes.new.out c.in_ok-span.span.len 4096 c.in_ok-span.ensures.span.within_limit c.copy_bytes.ensures.behind)
 
 pub returns-clause-loads : goal.returns-clause-loads
 returns-clause-loads g c =

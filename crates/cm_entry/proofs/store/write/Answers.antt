@@ -12,9 +12,6 @@ use Rattle.cm_entry.specs.EntryStores.{entry_stores, stores_from, value_stores}
 use Rattle.cm_entry.proofs.EntryStores.{behind_heads, entry_stands, may_first, may_key_words, may_value, prefix_after_key, prefix_key_words, room_in, so_far_is, storable_key, storable_value, writes_joined}
 use Rattle.cm_entry.proofs.store.write.Goals as goal
 
-pub head_of-requires : goal.head_of-requires
-head_of-requires g c = record { key_short = c.requires.room.fits.key_short; value_short = c.requires.room.fits.value_short }
-
 pub store-requires-clause-inner : goal.store-requires-clause-inner
 store-requires-clause-inner g c = behind_heads c.args.geo.now c.args.place c.args.chunk c.chunk_at-at.result c.chunk_at-at.ensures.value
 
@@ -67,7 +64,7 @@ stored g c =
     (done_then g.M.Mem.seen g.M.Mem.same_rest (λ old now. Writes old now (store_at c.chunk_at-at.result c.head_of-head.result ∷ stores_from (c.chunk_at-at.result + 2) (words_of c.args.key.now))) (λ old now. Writes old now (value_stores c.chunk_at-at.result c.args.key.now c.args.value.now)) (λ old now. Writes old now (entry_stores (chunk_at c.args.geo.now c.args.place c.args.chunk) c.args.key.now c.args.value.now)) _ c.store_bytes.new.mem _ (g.met.M.Mem.rest_transitive _ _ _)
     (done_then g.M.Mem.seen g.M.Mem.same_rest (λ old now. Writes old now (store_at c.chunk_at-at.result c.head_of-head.result ∷ [])) (λ old now. Writes old now (stores_from (c.chunk_at-at.result + 2) (words_of c.args.key.now))) (λ old now. Writes old now (store_at c.chunk_at-at.result c.head_of-head.result ∷ stores_from (c.chunk_at-at.result + 2) (words_of c.args.key.now))) _ c.store.new.self _ (g.met.M.Mem.rest_transitive _ _ _) (done_by g.M.Mem.seen g.M.Mem.same_rest (λ old now. Writes old now (store_at c.chunk_at-at.result c.head_of-head.result ∷ [])) IsAsBefore _ _ _ c.in_ok-store.ensures.stores.call) (done_by g.M.Mem.seen g.M.Mem.same_rest (λ old now. Writes old now (stores_from (c.chunk_at-at.result + 2) (words_of c.args.key.now))) (λ old now. WritesPrefix old now (stores_from (c.chunk_at-at.result + 2) (words_of c.args.key.now))) _ _ _ c.in_ok-over_key.ensures.stores) (λ first words. writes_append (g.M.Mem.seen c.args.mem.now) (g.M.Mem.seen c.store.new.self) (g.M.Mem.seen c.store_bytes.new.mem) (store_at c.chunk_at-at.result c.head_of-head.result ∷ []) (stores_from (c.chunk_at-at.result + 2) (words_of c.args.key.now)) first words)) (done_by g.M.Mem.seen g.M.Mem.same_rest (λ old now. Writes old now (value_stores c.chunk_at-at.result c.args.key.now c.args.value.now)) (λ old now. WritesPrefix old now (value_stores c.chunk_at-at.result c.args.key.now c.args.value.now)) _ _ _ c.in_ok-store_value.ensures)
     (λ written last. (subst (λ (n : ℕ). Writes (g.M.Mem.seen c.args.mem.now) (g.M.Mem.seen c.store_value.new.mem) (entry_stores n c.args.key.now c.args.value.now)) c.chunk_at-at.ensures.value
-    (writes_joined (g.M.Mem.seen c.args.mem.now) (g.M.Mem.seen c.store_bytes.new.mem) (g.M.Mem.seen c.store_value.new.mem) c.chunk_at-at.result c.head_of-head.result c.args.key.now c.args.value.now c.head_of-head.ensures written last)))
+    (writes_joined (g.M.Mem.seen c.args.mem.now) (g.M.Mem.seen c.store_bytes.new.mem) (g.M.Mem.seen c.store_value.new.mem) c.chunk_at-at.result c.head_of-head.result c.args.key.now c.args.value.now c.head_of-head.ensures written last))))
 
 pub returns-clause-stores : goal.returns-clause-stores
 returns-clause-stores g c = stored g c

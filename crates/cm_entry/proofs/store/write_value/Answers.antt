@@ -10,9 +10,6 @@ use Rattle.cm_entry.specs.EntryStores.{Replaces, head_stores, replacing_stores, 
 use Rattle.cm_entry.proofs.EntryStores.{may_head, may_value_each, prefix_replaced, so_far_is, storable_head, storable_value, value_stands}
 use Rattle.cm_entry.proofs.store.write_value.Goals as goal
 
-pub head_of-requires : goal.head_of-requires
-head_of-requires g c = record { key_short = c.requires.room.fits.key_short; value_short = c.requires.room.fits.value_short }
-
 pub store_head-requires-clause-room : goal.store_head-requires-clause-room
 store_head-requires-clause-room g c = storable_head (g.M.Mem.seen c.args.mem.now) c.args.geo.now c.args.place c.args.chunk c.chunk_at-at.result c.args.key.now c.args.value.now c.requires.writable c.requires.room c.chunk_at-at.ensures.value
 
