@@ -12,8 +12,8 @@ use Rattle.cm_words.specs.Memory.{FitsNotes, MemSeen}
 use Rattle.cm_words.specs.Effects.{Knows}
 use Rattle.cm_entry.specs.declared.span.Span.{Span}
 use Rattle.cm_entry.specs.Spans.{AreLengths, IsSpanOf, bytes_from}
-use Rattle.cm_entry.proofs.SpanWords.{told_len}
-use Rattle.cm_entry.proofs.Judging.{AreFit, are_fit, words_fit}
+use Rattle.cm_entry.proofs.SpanWords.{span_len}
+use Rattle.cm_entry.proofs.VerdictCases.{AreFit, are_fit, words_fit}
 
 -- the lengths of an entry, and where its key and its value stand
 pub record IsHere (geo : Geo) (words : List ℕ) (place chunk head : ℕ) (pair : Pair) : Type 0 where
@@ -33,9 +33,9 @@ read_at geo words place chunk pair e =
     (key_bytes geo words place chunk (word_at words (chunk_at geo place chunk))) (value_bytes geo words place chunk (word_at words (chunk_at geo place chunk))) pair e
 
 -- what is told of the words is the front of their bytes
-told_is : (words : List ℕ) (at len : ℕ) → bytes_from words at len (parts_for 8 len) ≡ take len (bytes_of (take (parts_for 8 len) (drop at words)))
+span_is : (words : List ℕ) (at len : ℕ) → bytes_from words at len (parts_for 8 len) ≡ take len (bytes_of (take (parts_for 8 len) (drop at words)))
 unfolding bytes_from
-told_is words at len = refl
+span_is words at len = refl
 
 holds : (len : ℕ) → len ≤ 8 * parts_for 8 len
 holds len = omega arith
@@ -49,19 +49,19 @@ is_here geo words place chunk head sum pair place_below long read =
     let fit = are_fit geo chunk head read.fit in
     let inside = words_fit geo place chunk (key_len head) (value_len head) place_below fit in
     let key_is : bytes_from words (chunk_at geo place chunk + 2) (key_len head) (parts_for 8 (key_len head)) ≡ pair.key =
-    told_is words (chunk_at geo place chunk + 2) (key_len head)
+    span_is words (chunk_at geo place chunk + 2) (key_len head)
     ∙ (ap (λ (n : ℕ). take (key_len head) (bytes_of (take (parts_for 8 (key_len head)) (drop n words)))) (plus_none (chunk_at geo place chunk + 2)) ∙ sym read.key_is) in
     let value_is : bytes_from words (chunk_at geo place chunk + 2 + parts_for 8 (key_len head)) (value_len head) (parts_for 8 (value_len head)) ≡ pair.value =
-    told_is words (chunk_at geo place chunk + 2 + parts_for 8 (key_len head)) (value_len head) ∙ sym read.value_is in
+    span_is words (chunk_at geo place chunk + 2 + parts_for 8 (key_len head)) (value_len head) ∙ sym read.value_is in
     record {
       fit = fit;
       inside = inside;
       key_is = key_is;
       value_is = value_is;
       key_len_is =
-          sym (told_len words (chunk_at geo place chunk + 2) (key_len head) (parts_for 8 (key_len head)) (omega (arith, inside, long)) (holds (key_len head))) ∙ ap (λ (bs : List ℕ). length bs) key_is;
+          sym (span_len words (chunk_at geo place chunk + 2) (key_len head) (parts_for 8 (key_len head)) (omega (arith, inside, long)) (holds (key_len head))) ∙ ap (λ (bs : List ℕ). length bs) key_is;
       value_len_is =
-          sym (told_len words (chunk_at geo place chunk + 2 + parts_for 8 (key_len head)) (value_len head) (parts_for 8 (value_len head)) (omega (arith, inside, long)) (holds (value_len head)))
+          sym (span_len words (chunk_at geo place chunk + 2 + parts_for 8 (key_len head)) (value_len head) (parts_for 8 (value_len head)) (omega (arith, inside, long)) (holds (value_len head)))
           ∙ ap (λ (bs : List ℕ). length bs) value_is;
     }
 
@@ -71,16 +71,16 @@ entry_here geo words place chunk pair place_below long e =
     is_here geo words place chunk (word_at words (chunk_at geo place chunk)) (word_at words (chunk_at geo place chunk + 1)) pair place_below long (read_at geo words place chunk pair e)
 
 -- the word that was loaded
-pub told_head : (m : MemSeen) (geo : Geo) (place chunk at head : ℕ) → at ≡ chunk_at geo place chunk → Knows m at head → (words : List ℕ) → FitsNotes m words → word_at words (chunk_at geo place chunk) ≡ head
-told_head m geo place chunk at head at_is knows words fits =
+pub loaded_head : (m : MemSeen) (geo : Geo) (place chunk at head : ℕ) → at ≡ chunk_at geo place chunk → Knows m at head → (words : List ℕ) → FitsNotes m words → word_at words (chunk_at geo place chunk) ≡ head
+loaded_head m geo place chunk at head at_is knows words fits =
     let behind : 0 < at = omega (arith, at_is, chunks_behind_head geo place chunk, tier_behind_head geo place) in
     ap (λ (n : ℕ). get_or words n 0) (sym at_is) ∙ knows.here (λ _. behind) words fits
 
 -- the halves of the first word
-pub lengths_told : (m : MemSeen) (geo : Geo) (place chunk at head key value : ℕ) → at ≡ chunk_at geo place chunk → Knows m at head → key ≡ key_len head → value ≡ value_len head
+pub loaded_lengths : (m : MemSeen) (geo : Geo) (place chunk at head key value : ℕ) → at ≡ chunk_at geo place chunk → Knows m at head → key ≡ key_len head → value ≡ value_len head
     → (words : List ℕ) → FitsNotes m words → AreLengths (word_at words (chunk_at geo place chunk)) key value
-lengths_told m geo place chunk at head key value at_is knows key_is value_is words fits =
-    let here = told_head m geo place chunk at head at_is knows words fits in
+loaded_lengths m geo place chunk at head key value at_is knows key_is value_is words fits =
+    let here = loaded_head m geo place chunk at head at_is knows words fits in
     record { key_is = key_is ∙ ap (λ (h : ℕ). key_len h) (sym here); value_is = value_is ∙ ap (λ (h : ℕ). value_len h) (sym here) }
 
 -- the lengths of the entry, as the code takes them from the first word

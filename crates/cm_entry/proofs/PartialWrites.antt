@@ -7,24 +7,24 @@ use Rattle.cm_geo.specs.Need.{parts_for}
 use Rattle.cm_plain.specs.Readings.{HasEntry, bytes_of, entry_checksum, head_of}
 use Rattle.cm_plain.specs.Changes.{entry_at}
 use Rattle.cm_plain.specs.Torn.{IsBetween}
-use Rattle.cm_words.specs.Effects.{after_stores}
+use Rattle.cm_words.specs.Stores.{WordStore, after_stores, store_at}
 use Rattle.cm_entry.specs.Packing.{words_of}
-use Rattle.cm_entry.specs.Writing.{entry_stores, head_stores, replacing_stores, stores_from, value_stores}
+use Rattle.cm_entry.specs.EntryStores.{HasRoom, entry_stores, head_stores, replacing_stores, stores_from, value_stores}
 use Rattle.cm_entry.proofs.Packing.{AreBytes, words_len}
-use Rattle.cm_entry.proofs.WritingStores.{after_len, part_same}
-use Rattle.cm_entry.proofs.WritingEntry.{EntryWords, IsRoom, inside_run, stood, value_replaced, words_stand}
+use Rattle.cm_entry.proofs.WordStores.{after_len, part_same}
+use Rattle.cm_entry.proofs.StoredEntries.{EntryWords, inside_run, stood, value_replaced, words_stand}
 
 -- each store is one of these
-abbrev pub Each : (ℕ → ℕ → Type 0) → List (ℕ × ℕ) → Type 0
+abbrev pub Each : (ℕ → ℕ → Type 0) → List WordStore → Type 0
 Each P [] = Unit {0}
-Each P (s ∷ stores) = P s.0 s.1 × Each P stores
+Each P (s ∷ stores) = P s.at s.word × Each P stores
 
-each_append : (P : ℕ → ℕ → Type 0) (ss ts : List (ℕ × ℕ)) → Each P ss → Each P ts → Each P (ss ++ ts)
+each_append : (P : ℕ → ℕ → Type 0) (ss ts : List WordStore) → Each P ss → Each P ts → Each P (ss ++ ts)
 each_append P [] ts p q = q
 each_append P (s ∷ ss) ts p q = (p.0, each_append P ss ts p.1 q)
 
 -- so is each of the first ones
-pub each_prefix : (P : ℕ → ℕ → Type 0) (made left : List (ℕ × ℕ)) → Each P (made ++ left) → Each P made
+pub each_prefix : (P : ℕ → ℕ → Type 0) (made left : List WordStore) → Each P (made ++ left) → Each P made
 each_prefix P [] left p = tt
 each_prefix P (s ∷ made) left p = (p.0, each_prefix P made left p.1)
 
@@ -33,11 +33,11 @@ each_from P at [] all = tt
 each_from P at (w ∷ stored) all = (all at w (omega arith) (omega arith), each_from P (at + 1) stored (λ to word low high. all to word (omega arith) (omega arith)))
 
 -- a word that no store is made to stays
-pub word_stays : (words : List ℕ) (stores : List (ℕ × ℕ)) (other : ℕ) → Each (λ to word. to ≢ other) stores → get_or (after_stores words stores) other 0 ≡ get_or words other 0
+pub word_stays : (words : List ℕ) (stores : List WordStore) (other : ℕ) → Each (λ to word. to ≢ other) stores → get_or (after_stores words stores) other 0 ≡ get_or words other 0
 word_stays words [] other apart = refl
 word_stays words (s ∷ stores) other apart =
-    let ne : other ≢ s.0 = λ e. apart.0 (sym e) in
-    word_stays (slice_set words s.0 s.1) stores other apart.1 ∙ get_or-set_other words s.0 other s.1 0 ne
+    let ne : other ≢ s.at = λ e. apart.0 (sym e) in
+    word_stays (slice_set words s.at s.word) stores other apart.1 ∙ get_or-set_other words s.at other s.word 0 ne
 
 -- ---- the words outside of the run stay
 
@@ -51,7 +51,7 @@ value_within at key value =
     let pk : ℕ = parts_for 8 (length key) in
     let pv : ℕ = parts_for 8 (length value) in
     let long : length (words_of value) ≡ pv = words_len value in
-    each_append (IsWithin at (2 + pk + pv)) (stores_from (at + 2 + pk) (words_of value)) ((at + 1, entry_checksum key value) ∷ [])
+    each_append (IsWithin at (2 + pk + pv)) (stores_from (at + 2 + pk) (words_of value)) (store_at (at + 1) (entry_checksum key value) ∷ [])
     (each_from (IsWithin at (2 + pk + pv)) (at + 2 + pk) (words_of value) (λ to word low high. behind_key at pk pv to (length (words_of value)) long low high)) ((second at pk pv), tt)
   where
     behind_key : (at pk pv to n : ℕ) → n ≡ pv → at + 2 + pk ≤ to → to < at + 2 + pk + n → (at ≤ to) × (to < at + (2 + pk + pv))
@@ -96,18 +96,18 @@ replacing_within at key value words =
     first at pk pv = (omega arith, omega arith)
 
 -- some of the stores to a run leave each word outside of it
-pub prefix_stays : (words : List ℕ) (at count other : ℕ) (made left stores : List (ℕ × ℕ)) → made ++ left ≡ stores → Each (IsWithin at count) stores → (other < at) ⊎ (at + count ≤ other)
+pub prefix_stays : (words : List ℕ) (at count other : ℕ) (made left stores : List WordStore) → made ++ left ≡ stores → Each (IsWithin at count) stores → (other < at) ⊎ (at + count ≤ other)
     → get_or (after_stores words made) other 0 ≡ get_or words other 0
 prefix_stays words at count other made left stores parts within apart =
-    word_stays words made other (each_apart made (each_prefix (IsWithin at count) made left (subst (λ (ss : List (ℕ × ℕ)). Each (IsWithin at count) ss) (sym parts) within)))
+    word_stays words made other (each_apart made (each_prefix (IsWithin at count) made left (subst (λ (ss : List WordStore). Each (IsWithin at count) ss) (sym parts) within)))
   where
     differ : (to : ℕ) → (at ≤ to) × (to < at + count) → (other < at) ⊎ (at + count ≤ other) → to ≢ other
     differ to h (inl before) = omega arith
     differ to h (inr behind) = omega arith
 
-    each_apart : (ss : List (ℕ × ℕ)) → Each (IsWithin at count) ss → Each (λ to word. to ≢ other) ss
+    each_apart : (ss : List WordStore) → Each (IsWithin at count) ss → Each (λ to word. to ≢ other) ss
     each_apart [] h = tt
-    each_apart (s ∷ ss) h = (differ s.0 h.0 apart, each_apart ss h.1)
+    each_apart (s ∷ ss) h = (differ s.at h.0 apart, each_apart ss h.1)
 
 -- ---- a value that is replaced
 
@@ -116,39 +116,39 @@ abbrev IsBehindKey : ℕ → ℕ → ℕ → ℕ → ℕ → Type 0
 IsBehindKey at pk head to word = ((to ≡ at) × (word ≡ head)) ⊎ (at + 2 + pk ≤ to)
 
 -- some of these stores leave what is neither
-behind_stays : (words : List ℕ) (at pk head other : ℕ) (made : List (ℕ × ℕ)) → Each (IsBehindKey at pk head) made → at < other → other < at + 2 + pk → get_or (after_stores words made) other 0 ≡ get_or words other 0
+behind_stays : (words : List ℕ) (at pk head other : ℕ) (made : List WordStore) → Each (IsBehindKey at pk head) made → at < other → other < at + 2 + pk → get_or (after_stores words made) other 0 ≡ get_or words other 0
 behind_stays words at pk head other made each low high = word_stays words made other (each_apart made each)
   where
     differ : (to word : ℕ) → IsBehindKey at pk head to word → to ≢ other
     differ to word (inl first) = (let e = first.0 in omega arith)
     differ to word (inr behind) = omega arith
 
-    each_apart : (ss : List (ℕ × ℕ)) → Each (IsBehindKey at pk head) ss → Each (λ to word. to ≢ other) ss
+    each_apart : (ss : List WordStore) → Each (IsBehindKey at pk head) ss → Each (λ to word. to ≢ other) ss
     each_apart [] h = tt
-    each_apart (s ∷ ss) h = (differ s.0 s.1 h.0, each_apart ss h.1)
+    each_apart (s ∷ ss) h = (differ s.at s.word h.0, each_apart ss h.1)
 
 -- the first word is the one before or the new one
-behind_head : (words : List ℕ) (at pk head : ℕ) (made : List (ℕ × ℕ)) → at < length words → Each (IsBehindKey at pk head) made → (get_or (after_stores words made) at 0 ≡ get_or words at 0) ⊎ (get_or (after_stores words made) at 0 ≡ head)
+behind_head : (words : List ℕ) (at pk head : ℕ) (made : List WordStore) → at < length words → Each (IsBehindKey at pk head) made → (get_or (after_stores words made) at 0 ≡ get_or words at 0) ⊎ (get_or (after_stores words made) at 0 ≡ head)
 behind_head words at pk head [] inside each = inl refl
 behind_head words at pk head (s ∷ made) inside each =
-    next (behind_head (slice_set words s.0 s.1) at pk head made (rw length-set inside) each.1) each.0
+    next (behind_head (slice_set words s.at s.word) at pk head made (rw length-set inside) each.1) each.0
   where
     apart : (to : ℕ) → at + 2 + pk ≤ to → at ≢ to
     apart to h = omega arith
 
-    next : (get_or (after_stores words (s ∷ made)) at 0 ≡ get_or (slice_set words s.0 s.1) at 0) ⊎ (get_or (after_stores words (s ∷ made)) at 0 ≡ head) → IsBehindKey at pk head s.0 s.1
+    next : (get_or (after_stores words (s ∷ made)) at 0 ≡ get_or (slice_set words s.at s.word) at 0) ⊎ (get_or (after_stores words (s ∷ made)) at 0 ≡ head) → IsBehindKey at pk head s.at s.word
         → (get_or (after_stores words (s ∷ made)) at 0 ≡ get_or words at 0) ⊎ (get_or (after_stores words (s ∷ made)) at 0 ≡ head)
     next (inr new) is = inr new
     next (inl same) (inl first) =
-        inr (same ∙ (ap (λ (n : ℕ). get_or (slice_set words n s.1) at 0) first.0 ∙ (get_or-set_same words at s.1 0 inside ∙ first.1)))
-    next (inl same) (inr behind) = inl (same ∙ get_or-set_other words s.0 at s.1 0 (apart s.0 behind))
+        inr (same ∙ (ap (λ (n : ℕ). get_or (slice_set words n s.word) at 0) first.0 ∙ (get_or-set_same words at s.word 0 inside ∙ first.1)))
+    next (inl same) (inr behind) = inl (same ∙ get_or-set_other words s.at at s.word 0 (apart s.at behind))
 
 -- some stores of a list that ends with this one: all of them, or some of those before the last
-prefix_or_all : (last : ℕ × ℕ) (made left stores : List (ℕ × ℕ)) → made ++ left ≡ stores ++ last ∷ [] → (made ≡ stores ++ last ∷ []) ⊎ ((more : List (ℕ × ℕ)) × (made ++ more ≡ stores))
+prefix_or_all : (last : WordStore) (made left stores : List WordStore) → made ++ left ≡ stores ++ last ∷ [] → (made ≡ stores ++ last ∷ []) ⊎ ((more : List WordStore) × (made ++ more ≡ stores))
 prefix_or_all last [] left stores e = inr (stores, refl)
 prefix_or_all last (m ∷ made) left [] e = inl (one e)
   where
-    nothing : (xs ys : List (ℕ × ℕ)) → xs ++ ys ≡ [] → xs ≡ []
+    nothing : (xs ys : List WordStore) → xs ++ ys ≡ [] → xs ≡ []
     nothing [] ys e = refl
     nothing (x ∷ xs) ys e = cc e
 
@@ -159,11 +159,11 @@ prefix_or_all last (m ∷ made) left (s ∷ stores) e =
     let rest : made ++ left ≡ stores ++ last ∷ [] = cc e in
     step head (prefix_or_all last made left stores rest)
   where
-    step : m ≡ s → (made ≡ stores ++ last ∷ []) ⊎ ((more : List (ℕ × ℕ)) × (made ++ more ≡ stores)) → (m ∷ made ≡ s ∷ stores ++ last ∷ []) ⊎ ((more : List (ℕ × ℕ)) × (m ∷ made ++ more ≡ s ∷ stores))
+    step : m ≡ s → (made ≡ stores ++ last ∷ []) ⊎ ((more : List WordStore) × (made ++ more ≡ stores)) → (m ∷ made ≡ s ∷ stores ++ last ∷ []) ⊎ ((more : List WordStore) × (m ∷ made ++ more ≡ s ∷ stores))
     step head (inl all) = inl (rw (head, all) refl)
     step head (inr front) = inr (front.0, rw (head, front.1) refl)
 
-prefix_each : (words : List ℕ) (at : ℕ) (key value : List ℕ) (made more : List (ℕ × ℕ)) → made ++ more ≡ head_stores at (head_of key value) words ++ stores_from (at + 2 + parts_for 8 (length key)) (words_of value)
+prefix_each : (words : List ℕ) (at : ℕ) (key value : List ℕ) (made more : List WordStore) → made ++ more ≡ head_stores at (head_of key value) words ++ stores_from (at + 2 + parts_for 8 (length key)) (words_of value)
     → Each (IsBehindKey at (parts_for 8 (length key)) (head_of key value)) made
 prefix_each words at key value made more parts =
     let pk : ℕ = parts_for 8 (length key) in
@@ -171,20 +171,20 @@ prefix_each words at key value made more parts =
     let all : Each (IsBehindKey at pk head) (head_stores at head words ++ stores_from (at + 2 + pk) (words_of value))
     = each_append (IsBehindKey at pk head) (head_stores at head words) (stores_from (at + 2 + pk) (words_of value)) (head_each (IsBehindKey at pk head) at head words (inl (refl, refl)))
     (each_from (IsBehindKey at pk head) (at + 2 + pk) (words_of value) (λ to word low high. inr low)) in
-    each_prefix (IsBehindKey at pk head) made more (subst (λ (ss : List (ℕ × ℕ)). Each (IsBehindKey at pk head) ss) (sym parts) all)
+    each_prefix (IsBehindKey at pk head) made more (subst (λ (ss : List WordStore). Each (IsBehindKey at pk head) ss) (sym parts) all)
 
 -- while the value of an entry is replaced, its first word, its key's words and its checksum lie between the old entry and the new one
-pub value_between : (geo : Geo) (words : List ℕ) (place chunk : ℕ) (key old value : List ℕ) (made left : List (ℕ × ℕ)) → AreBytes value → IsRoom geo place chunk key value → length words ≡ words_in_segment geo
+pub value_between : (geo : Geo) (words : List ℕ) (place chunk : ℕ) (key old value : List ℕ) (made left : List WordStore) → AreBytes value → HasRoom geo place chunk key value → length words ≡ words_in_segment geo
     → HasEntry geo words place chunk key old → made ++ left ≡ replacing_stores (chunk_at geo place chunk) key value words
     → IsBetween geo (after_stores words made) (entry_at key old place chunk) (entry_at key value place chunk)
 unfolding replacing_stores value_stores entry_checksum
 value_between geo words place chunk key old value made left small room length_is has parts =
     let at : ℕ = chunk_at geo place chunk in
-    let first : List (ℕ × ℕ) = head_stores at (head_of key value) words ++ stores_from (at + 2 + parts_for 8 (length key)) (words_of value) in
-    let last_is : replacing_stores at key value words ≡ first ++ (at + 1, entry_checksum key value) ∷ []
-    = sym (append_assoc (head_stores at (head_of key value) words) (stores_from (at + 2 + parts_for 8 (length key)) (words_of value)) ((at + 1, entry_checksum key value) ∷ [])) in
-    elim (prefix_or_all (at + 1, entry_checksum key value) made left first (parts ∙ last_is)) [
-      | inl all ↦ whole (subst (λ (ss : List (ℕ × ℕ)). EntryWords (after_stores words ss) at key value) (sym (all ∙ sym last_is)) (value_replaced geo words place chunk key value small room length_is (old, has)))
+    let first : List WordStore = head_stores at (head_of key value) words ++ stores_from (at + 2 + parts_for 8 (length key)) (words_of value) in
+    let last_is : replacing_stores at key value words ≡ first ++ store_at (at + 1) (entry_checksum key value) ∷ []
+    = sym (append_assoc (head_stores at (head_of key value) words) (stores_from (at + 2 + parts_for 8 (length key)) (words_of value)) (store_at (at + 1) (entry_checksum key value) ∷ [])) in
+    elim (prefix_or_all (store_at (at + 1) (entry_checksum key value)) made left first (parts ∙ last_is)) [
+      | inl all ↦ whole (subst (λ (ss : List WordStore). EntryWords (after_stores words ss) at key value) (sym (all ∙ sym last_is)) (value_replaced geo words place chunk key value small room length_is (old, has)))
       | inr front ↦ midway (prefix_each words at key value made front.0 front.1)
     ]
   where

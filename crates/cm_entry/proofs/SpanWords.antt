@@ -42,14 +42,14 @@ bytes_prefix ws count = elim (cases_le count (length ws)) [
 ]
 
 -- no word, no byte
-pub told_none : (words : List ℕ) (at len : ℕ) → bytes_from words at len 0 ≡ []
+pub span_none : (words : List ℕ) (at len : ℕ) → bytes_from words at len 0 ≡ []
 unfolding bytes_from
-told_none words at len = take_all len [] (omega arith)
+span_none words at len = take_all len [] (omega arith)
 
 -- the bytes of whole words
-pub told_whole : (words : List ℕ) (at len count : ℕ) → len ≡ 8 * count → bytes_from words at len count ≡ bytes_of (take count (drop at words))
+pub span_whole : (words : List ℕ) (at len count : ℕ) → len ≡ 8 * count → bytes_from words at len count ≡ bytes_of (take count (drop at words))
 unfolding bytes_from
-told_whole words at len count e = take_all len (bytes_of (take count (drop at words))) (within_limit (take count (drop at words)) (stretch_short (drop at words) count))
+span_whole words at len count e = take_all len (bytes_of (take count (drop at words))) (within_limit (take count (drop at words)) (stretch_short (drop at words) count))
   where
     stretch_short : (ws : List ℕ) (count : ℕ) → length (take count ws) ≤ count
     stretch_short ws count = elim (cases_le count (length ws)) [
@@ -61,16 +61,16 @@ told_whole words at len count e = take_all len (bytes_of (take count (drop at wo
     within_limit ws few = omega (arith, bytes_len ws)
 
 -- as many bytes as the words have, if there are more
-pub told_len_part : (words : List ℕ) (at len count : ℕ) → at + count ≤ length words → 8 * count ≤ len → length (bytes_from words at len count) ≡ 8 * count
+pub span_len_part : (words : List ℕ) (at len count : ℕ) → at + count ≤ length words → 8 * count ≤ len → length (bytes_from words at len count) ≡ 8 * count
 unfolding bytes_from
-told_len_part words at len count within within_limit =
+span_len_part words at len count within within_limit =
     let long : length (bytes_of (take count (drop at words))) ≡ 8 * count = bytes_len (take count (drop at words)) ∙ ap (λ (n : ℕ). 8 * n) (stretch_len words at count within) in
     ap (λ (bs : List ℕ). length bs) (take_all len (bytes_of (take count (drop at words))) (omega (arith, long))) ∙ long
 
 -- as many bytes as are told
-pub told_len : (words : List ℕ) (at len count : ℕ) → at + count ≤ length words → len ≤ 8 * count → length (bytes_from words at len count) ≡ len
+pub span_len : (words : List ℕ) (at len count : ℕ) → at + count ≤ length words → len ≤ 8 * count → length (bytes_from words at len count) ≡ len
 unfolding bytes_from
-told_len words at len count within within_limit =
+span_len words at len count within within_limit =
     let long : length (bytes_of (take count (drop at words))) ≡ 8 * count = bytes_len (take count (drop at words)) ∙ ap (λ (n : ℕ). 8 * n) (stretch_len words at count within) in
     length-take-le len (bytes_of (take count (drop at words))) (omega (arith, long))
 
@@ -79,10 +79,10 @@ joined xs ys len long e within =
     ap (λ (n : ℕ). take n (xs ++ ys)) (let h : len ≡ length xs + (len - long) = omega (arith, e) in h) ∙ take-append-add xs ys (len - long)
 
 -- one word more
-pub told_more : (words : List ℕ) (at len count : ℕ) → at + count < length words → 8 * count ≤ len
+pub span_more : (words : List ℕ) (at len count : ℕ) → at + count < length words → 8 * count ≤ len
     → bytes_from words at len (count + 1) ≡ bytes_from words at len count ++ take (len - 8 * count) (to_le_bytes w64 (get_or words (at + count) 0))
 unfolding bytes_from
-told_more words at len count within within_limit =
+span_more words at len count within within_limit =
     let ws : List ℕ = take count (drop at words) in
     let word : ℕ = get_or words (at + count) 0 in
     let long : length (bytes_of ws) ≡ 8 * count = bytes_len ws ∙ ap (λ (n : ℕ). 8 * n) (stretch_len words at count (omega arith)) in

@@ -1,7 +1,9 @@
 -- The definitions that contracts cite.
+pub mod Loading
 pub mod Spans
-pub mod Sums
+pub mod Hashes
+pub mod Parts
 pub mod Verdicts
 pub mod Progress
 pub mod Packing
-pub mod Writing
+pub mod EntryStores

@@ -1,5 +1,5 @@
 -- How bytes are packed into words of 64 bits (own).
-use Rattle.std.specs.Prelude.{ℕ, ◌-◌, ◌*◌, List, ◌++◌, length, map, take, drop, replicate, fold}
+use Rattle.std.specs.Prelude.{ℕ, ◌-◌, ◌*◌, ◌<◌, ◌≤◌, List, ◌++◌, length, map, take, drop, replicate, fold}
 use Rattle.std.specs.List.{range_with_len}
 use Rattle.std.specs.Int.{from_le_bytes, w64}
 use Rattle.cm_geo.specs.Hash.{hash_byte}
@@ -20,6 +20,16 @@ part_of bytes number = take 8 (drop (8 * number) bytes)
 -- the words of bytes, 8 bytes a word
 unfoldable pub words_of : List ℕ → List ℕ
 words_of bytes = map (λ number. word_of (part_of bytes number)) (range_with_len 0 (parts_for 8 (length bytes)))
+
+-- the number of one of the words of at most 4096 bytes
+pub record IsWordNumber (bytes : List ℕ) (number : ℕ) : Type 0 where
+  pub within_limit : length bytes ≤ 4096
+  pub low : number < parts_for 8 (length bytes)
+
+-- a key and a value that are not too long
+pub record AreShort (key value : List ℕ) : Type 0 where
+  pub key_short : length key ≤ 256
+  pub value_short : length value ≤ 4096
 
 -- a hash that goes on over bytes
 unfoldable pub hash_on : ℕ → List ℕ → ℕ

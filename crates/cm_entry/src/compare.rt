@@ -1,15 +1,13 @@
 //! Comparing what stands in a span with given bytes.
 
-ghost use Rattle.std.specs.Prelude.{◌≡◌, ◌≢◌, ◌↔◌, ◌≤◌, IfOk, IsTrue, List, ℕ, length, take};
+ghost use Rattle.std.specs.Prelude.{◌≡◌, ◌↔◌, ◌≤◌, IfOk, IsTrue, List, ℕ, length, take};
 ghost use Rattle.std.specs.Int.{to_le_bytes, w64};
-ghost use Rattle.cm_words.specs.Memory.{FitsNotes, MemSeen};
-ghost use Rattle.cm_words.specs.Meters.{ReportsDeath};
-ghost use Rattle.cm_words.specs.Effects.{Reads};
-ghost use Rattle.cm_words.specs.declared.access.Access.TheVariants.{Closed};
-ghost use Rattle.cm_entry.specs.Spans.{IsInside, bytes_in};
+ghost use Rattle.cm_geo.specs.Need.{parts_for};
+ghost use Rattle.cm_words.specs.Memory.{FitsNotes};
+ghost use Rattle.cm_entry.specs.Loading.{LoadsToCompare};
+ghost use Rattle.cm_entry.specs.Spans.{IsReadableSpan, bytes_in};
 
 use crate::span::Span;
-use cm_geo::Geo;
 use cm_words::{Dead, Mem};
 
 // Whether the first bytes of a word are these, of which there are at most 8.
@@ -26,31 +24,26 @@ fn word_begins(word: u64, bytes: &[u8]) -> bool
     }
 }
 
-/// Whether these bytes are those of a span.
-pub(crate) fn same_bytes<M: Mem>(
-    mem: &mut M,
-    geo: &Geo,
-    span: Span,
-    bytes: &[u8],
-) -> Result<bool, Dead>
-    requires open { (M.seen mem.old).setting.access ≢ Closed }
-    requires geo { (M.seen mem.old).setting.geo ≡ geo.now }
-    requires span { IsInside geo.now span }
-    ensures rest { M.same_rest mem.old mem.new }
-    ensures fuse { ReportsDeath (M.seen mem.old).meter (M.seen mem.new).meter result }
-    ensures reads { Reads (M.seen mem.old) (M.seen mem.new) }
+/// Whether these bytes are those of a span: whole words first, and then the rest of the last one.
+pub(crate) fn same_bytes<M: Mem>(mem: &mut M, span: Span, bytes: &[u8]) -> Result<bool, Dead>
+    requires { IsReadableSpan (M.seen mem.old) span }
+    ensures loads { LoadsToCompare M.seen M.same_rest (parts_for 8 (length bytes.now)) mem.old mem.new result }
     ensures same { IfOk result (λ same. (words : List ℕ) → FitsNotes (M.seen mem.new) words → (IsTrue same ↔ (bytes_in words span ≡ bytes.now))) }
 {
     if bytes.len() != span.len as usize {
         return Ok(false);
     }
-    for i in 0..span.len.div_ceil(8) {
+    let whole = span.len / 8;
+    for i in 0..whole {
         let word = mem.load(span.at + i)?;
         let from = 8 * i as usize;
-        let to = (from + 8).min(bytes.len());
-        if !word_begins(word, &bytes[from..to]) {
+        if !word_begins(word, &bytes[from..from + 8]) {
             return Ok(false);
         }
     }
-    Ok(true)
+    if span.len % 8 == 0 {
+        return Ok(true);
+    }
+    let last = mem.load(span.at + whole)?;
+    Ok(word_begins(last, &bytes[8 * whole as usize..]))
 }

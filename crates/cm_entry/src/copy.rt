@@ -1,37 +1,33 @@
 //! Copying what stands in a span.
 
-ghost use Rattle.std.specs.Prelude.{◌≡◌, ◌≢◌, ◌≤◌, OnOk, List, ℕ, length, take};
-ghost use Rattle.cm_words.specs.Memory.{FitsNotes, MemSeen};
-ghost use Rattle.cm_words.specs.Meters.{ReportsDeath};
-ghost use Rattle.cm_words.specs.Effects.{Reads};
-ghost use Rattle.cm_words.specs.declared.access.Access.TheVariants.{Closed};
-ghost use Rattle.cm_entry.specs.Spans.{IsInside, bytes_in};
+ghost use Rattle.std.specs.Prelude.{◌≡◌, ◌≤◌, length, take, drop};
+ghost use Rattle.cm_geo.specs.Need.{parts_for};
+ghost use Rattle.cm_entry.specs.Loading.{LoadsAnswer};
+ghost use Rattle.cm_entry.specs.Spans.{IsReadableSpan, bytes_in};
 
 use crate::span::Span;
-use cm_geo::Geo;
 use cm_words::{Dead, Mem};
 
-/// Copies the bytes of a span to the front of `out`, which has room for them.
-pub(crate) fn copy_bytes<M: Mem>(
-    mem: &mut M,
-    geo: &Geo,
-    span: Span,
-    out: &mut [u8],
-) -> Result<(), Dead>
-    requires open { (M.seen mem.old).setting.access ≢ Closed }
-    requires geo { (M.seen mem.old).setting.geo ≡ geo.now }
-    requires span { IsInside geo.now span }
+/// Copies the bytes of a span to the beginning of `out`, which has room for them: whole words first, and
+/// then the rest of the last one. What stands behind them stays.
+pub(crate) fn copy_bytes<M: Mem>(mem: &mut M, span: Span, out: &mut [u8]) -> Result<(), Dead>
+    requires span { IsReadableSpan (M.seen mem.old) span }
     requires room { span.len ≤ length out.old }
-    ensures rest { M.same_rest mem.old mem.new }
-    ensures fuse { ReportsDeath (M.seen mem.old).meter (M.seen mem.new).meter result }
-    ensures reads { Reads (M.seen mem.old) (M.seen mem.new) }
-    ensures copied { OnOk result ((words : List ℕ) → FitsNotes (M.seen mem.new) words → take span.len out.new ≡ bytes_in words span) }
+    ensures copied { LoadsAnswer M.seen M.same_rest (λ _. parts_for 8 span.len) (λ words _. take span.len out.new ≡ bytes_in words span) mem.old mem.new result }
+    ensures behind { drop span.len out.new ≡ drop span.len out.old }
 {
-    for i in 0..span.len.div_ceil(8) {
+    let whole = span.len / 8;
+    for i in 0..whole {
         let word = mem.load(span.at + i)?;
         let from = 8 * i as usize;
-        let to = (from + 8).min(span.len as usize);
-        out[from..to].copy_from_slice(&word.to_le_bytes()[..to - from]);
+        out[from..from + 8].copy_from_slice(&word.to_le_bytes());
     }
+    let left = (span.len % 8) as usize;
+    if left == 0 {
+        return Ok(());
+    }
+    let last = mem.load(span.at + whole)?;
+    let from = 8 * whole as usize;
+    out[from..from + left].copy_from_slice(&last.to_le_bytes()[..left]);
     Ok(())
 }

@@ -8,7 +8,7 @@ ghost use Rattle.cm_entry.specs.Packing.{hash_on};
 use cm_geo::hash_byte;
 
 /// The state of FNV-1a after so many of a word's bytes, the lowest first.
-pub(crate) fn hash_front(state: u64, word: u64, count: usize) -> u64
+pub(crate) fn hash_prefix(state: u64, word: u64, count: usize) -> u64
     requires { count ≤ 8 }
     ensures { result ≡ fold hash_byte_of state (take count (to_le_bytes w64 word)) }
 {
@@ -22,5 +22,5 @@ pub(crate) fn hash_front(state: u64, word: u64, count: usize) -> u64
 pub(crate) fn hash_word(state: u64, word: u64) -> u64
     ensures { result ≡ hash_on state (to_le_bytes w64 word) }
 {
-    hash_front(state, word, 8)
+    hash_prefix(state, word, 8)
 }

@@ -1,7 +1,5 @@
 //! Entries made word by word. The checksums and hashes come from FNV-1a as another program computes it.
 
-ghost use Rattle.std.specs.Prelude.{◌≡◌, ◌<◌};
-
 use crate::{
     Verdict, key_equals, key_hash, lengths, read_key_into, read_value_into, value_equals, verify,
 };
@@ -10,43 +8,41 @@ use cm_words::{FixedMem, Words};
 use std::alloc::Global;
 use std::test::Fail;
 
-// The first word of a chunk in a map of one tier of 64 chunks with 8 words each.
-fn at_chunk(chunk: u32) -> u32
-    ensures { result < 1000 }
-{
-    137 + 8 * (chunk % 64)
-}
+// The chunks of a map of one tier with 64 chunks of 8 words each begin here.
+const CHUNKS: u32 = 137;
+
+// The first word of the last chunk.
+const LAST_CHUNK: u32 = CHUNKS + 8 * 63;
 
 // Sets a word of the map.
 fn put(words: &mut Words, at: u32, word: u64)
-    ensures { words.new.geo ≡ words.old.geo }
 {
     if at < words.geo().total_words() {
         words.set(at, word);
     }
 }
 
-// Words that are zero, but for these from a place on.
+// Words that are zero, but for these from an address on.
 fn laid(alloc: Global, at: u32, row: &[u64]) -> Result<Words, Fail> {
     let geo = Geo::new(1, 1, 64, 8, 0)?;
     let mut words = Words::empty(alloc, &geo)?;
-    let mut place = at;
+    let mut next = at;
     for word in row {
-        put(&mut words, place, *word);
-        place = place.wrapping_add(1);
+        put(&mut words, next, *word);
+        next = next.wrapping_add(1);
     }
     Ok(words)
 }
 
-// The words of these bytes follow at a place.
+// Puts the words of these bytes from an address on.
 fn lay(words: &mut Words, at: u32, bytes: &[u8]) {
-    let mut place = at;
+    let mut next = at;
     let mut word = 0;
     for (i, byte) in bytes.iter().enumerate() {
         word |= u64::from(*byte) << (8 * (i % 8));
         if i % 8 == 7 || i + 1 == bytes.len() {
-            put(words, place, word);
-            place = place.wrapping_add(1);
+            put(words, next, word);
+            next = next.wrapping_add(1);
             word = 0;
         }
     }
@@ -116,7 +112,7 @@ const SMALL: [u64; 5] = [
 
 // The verdict on these words at the beginning of a chunk.
 fn verdict_on(alloc: Global, row: [u64; 5]) -> Result<Option<Verdict>, Fail> {
-    let words = laid(alloc, at_chunk(5), &row)?;
+    let words = laid(alloc, CHUNKS + 8 * 5, &row)?;
     Ok(verdict_at(&words, 5))
 }
 
@@ -161,16 +157,16 @@ fn each_verdict_names_what_is_wrong_first(rt: HostRuntime) -> Result<(), Fail> {
 
 #[test]
 fn a_small_entry_is_read(rt: HostRuntime) -> Result<(), Fail> {
-    let words = laid(rt.alloc(), at_chunk(63), &SMALL)?;
+    let words = laid(rt.alloc(), LAST_CHUNK, &SMALL)?;
     assert_eq!(rt; lengths_at(&words, 63), Some((9, 6)));
     assert_eq!(rt; hash_at(&words, 63), Some(0x5b7a_10a3_87fc_ef36));
-    assert_eq!(rt; key_at(&words, 63, b"within_limit key"), Some((true, true)));
+    assert_eq!(rt; key_at(&words, 63, b"short key"), Some((true, true)));
     assert_eq!(rt;
-        key_at(&words, 63, b"within_limit kez"),
+        key_at(&words, 63, b"short kez"),
         Some((false, false))
     );
     assert_eq!(rt;
-        key_at(&words, 63, b"within_limit ke"),
+        key_at(&words, 63, b"short ke"),
         Some((false, false))
     );
     assert_eq!(rt; value_at(&words, 63, b"value!"), Some((true, true)));
@@ -180,7 +176,7 @@ fn a_small_entry_is_read(rt: HostRuntime) -> Result<(), Fail> {
 
 #[test]
 fn an_empty_value_is_read(rt: HostRuntime) -> Result<(), Fail> {
-    let words = laid(rt.alloc(), at_chunk(0), &[1, 0x3775_b21b_b6c2_da65, 0x61])?;
+    let words = laid(rt.alloc(), CHUNKS, &[1, 0x3775_b21b_b6c2_da65, 0x61])?;
     let good = Some(Verdict::Good {
         key_len: 1,
         value_len: 0,
@@ -197,8 +193,8 @@ fn an_empty_value_is_read(rt: HostRuntime) -> Result<(), Fail> {
 fn pattern<const N: usize>(first: u8, step: u8) -> [u8; N] {
     let mut bytes = [0; N];
     let mut byte = first;
-    for place in &mut bytes {
-        *place = byte;
+    for slot in &mut bytes {
+        *slot = byte;
         byte = byte.wrapping_add(step);
     }
     bytes
@@ -210,11 +206,11 @@ fn an_entry_may_fill_the_tier(rt: HostRuntime) -> Result<(), Fail> {
     let value: [u8; 3820] = pattern(5, 13);
     let mut words = laid(
         rt.alloc(),
-        at_chunk(0),
+        CHUNKS,
         &[0x0000_0eec_0000_0100, 0xe9fc_debc_456e_a830],
     )?;
-    lay(&mut words, at_chunk(0) + 2, &key);
-    lay(&mut words, at_chunk(0) + 34, &value);
+    lay(&mut words, CHUNKS + 2, &key);
+    lay(&mut words, CHUNKS + 34, &value);
     let good = Some(Verdict::Good {
         key_len: 256,
         value_len: 3820,
@@ -230,7 +226,7 @@ fn an_entry_may_fill_the_tier(rt: HostRuntime) -> Result<(), Fail> {
 
 #[test]
 fn any_words_are_read_to_an_end(rt: HostRuntime) -> Result<(), Fail> {
-    let most = laid(rt.alloc(), at_chunk(63), &[u64::MAX; 8])?;
+    let most = laid(rt.alloc(), LAST_CHUNK, &[u64::MAX; 8])?;
     assert_eq!(rt; verdict_at(&most, 63), Some(Verdict::Lengths));
     assert_eq!(rt; key_at(&most, 63, b"a"), Some((false, false)));
     assert_eq!(rt; value_at(&most, 63, b"a"), Some((false, false)));

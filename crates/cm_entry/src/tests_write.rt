@@ -1,7 +1,7 @@
 //! Entries worked out by hand, and what stands where a writer died.
 
-ghost use Rattle.std.specs.Prelude.{◌≡◌, ◌+◌, ◌<◌, ◌≤◌, IsTrue, length};
-ghost use Rattle.cm_geo.specs.Need.{Fits, need};
+ghost use Rattle.std.specs.Prelude.{IsTrue};
+ghost use Rattle.cm_entry.specs.EntryStores.{HasRoom};
 
 use crate::{write, write_value};
 use cm_geo::Geo;
@@ -11,8 +11,7 @@ use std::test::Fail;
 
 /// Whether an entry may stand at a chunk.
 fn has_room(geo: &Geo, chunk: u32, key: &[u8], value: &[u8]) -> bool
-    ensures fits { IsTrue result → Fits geo.now (length key.now) (length value.now) }
-    ensures run { IsTrue result → chunk + need geo.now (length key.now) (length value.now) ≤ geo.now.chunks }
+    ensures { IsTrue result → HasRoom geo.now 0 chunk key.now value.now }
 {
     if key.len() > 256 || value.len() > 4096 || chunk > 4096 {
         return false;
@@ -246,8 +245,8 @@ fn a_longer_value_is_stopped_at_each_of_its_stores(rt: HostRuntime) -> Result<()
 #[test]
 fn a_value_takes_one_load(rt: HostRuntime) -> Result<(), Fail> {
     let (_, enough) = replaced(rt.alloc(), KillFuse::Events { left: 4 }, b"other ten!")?;
-    let (_, within_limit) = replaced(rt.alloc(), KillFuse::Events { left: 3 }, b"other ten!")?;
+    let (_, too_few) = replaced(rt.alloc(), KillFuse::Events { left: 3 }, b"other ten!")?;
     assert_eq!(rt; enough, Ok(()));
-    assert_eq!(rt; within_limit, Err(Dead));
+    assert_eq!(rt; too_few, Err(Dead));
     Ok(())
 }

@@ -1,6 +1,6 @@
 use Rattle.std.proofs.Common.{◌≡◌, ◌==◌, ◌%◌, false, ne_eqb, refl}
 use Rattle.std.specs.Int.{to_le_bytes, w64}
-use Rattle.cm_entry.proofs.Summing.{rest_zero}
+use Rattle.cm_entry.proofs.SpanHashes.{rest_zero}
 use Rattle.cm_entry.proofs.checksum.is_padded.Goals as goal
 
 pub returns-else-count-eq0 : goal.returns-else-count-eq0

@@ -1,9 +1,11 @@
-use Rattle.cm_entry.specs.Progress.{AreSame, Loaded}
+use Rattle.std.proofs.Common.{◌≡◌, ◌+◌}
+use Rattle.cm_words.specs.Calls.{HasLoaded}
+use Rattle.cm_entry.specs.Progress.{EqualSoFar}
 use Rattle.cm_entry.proofs.compare.same_bytes.Given as goal
 
 abbrev pub invariant-loop-i : goal.invariant-loop-i
 invariant-loop-i g l = record {
-  rest : g.M.Mem.same_rest l.initial.mem l.mem;
-  loaded : Loaded (g.M.Mem.seen l.initial.mem) (g.M.Mem.seen l.mem);
-  same : AreSame (g.M.Mem.seen l.mem) l.span l.bytes l.i;
+  loaded : HasLoaded g.M.Mem.seen g.M.Mem.same_rest l.initial.mem l.mem;
+  events : (g.M.Mem.seen l.mem).meter.events ≡ (g.M.Mem.seen l.initial.mem).meter.events + l.i;
+  same : EqualSoFar (g.M.Mem.seen l.mem) l.span l.bytes l.i;
 }

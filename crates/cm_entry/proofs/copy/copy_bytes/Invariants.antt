@@ -1,9 +1,12 @@
-use Rattle.cm_entry.specs.Progress.{AreCopied, Loaded}
+use Rattle.std.proofs.Common.{◌≡◌, ◌+◌, drop}
+use Rattle.cm_words.specs.Calls.{HasLoaded}
+use Rattle.cm_entry.specs.Progress.{IsCopySoFar}
 use Rattle.cm_entry.proofs.copy.copy_bytes.Given as goal
 
 abbrev pub invariant-loop-i : goal.invariant-loop-i
 invariant-loop-i g l = record {
-  rest : g.M.Mem.same_rest l.initial.mem l.mem;
-  loaded : Loaded (g.M.Mem.seen l.initial.mem) (g.M.Mem.seen l.mem);
-  copied : AreCopied (g.M.Mem.seen l.mem) l.span l.out l.i;
+  loaded : HasLoaded g.M.Mem.seen g.M.Mem.same_rest l.initial.mem l.mem;
+  events : (g.M.Mem.seen l.mem).meter.events ≡ (g.M.Mem.seen l.initial.mem).meter.events + l.i;
+  copied : IsCopySoFar (g.M.Mem.seen l.mem) l.span l.out l.i;
+  behind : drop l.span.len l.out ≡ drop l.span.len l.initial.out;
 }

@@ -11,5 +11,5 @@ filled_up bytes copied count same long = rw same (ap (λ (zeros : List ℕ). byt
 pub returns : goal.returns
 unfolding word_of
 returns c =
-    let e : c.from_le_bytes.result ≡ from_le_bytes w64 (c.copy_from_slice.new.self ++ drop (length c.args.bytes.now) (replicate 8 0)) = c.from_le_bytes.ensures in
+    let e : c.from_le_bytes-2.result ≡ from_le_bytes w64 (c.copy_from_slice.new.self ++ drop (length c.args.bytes.now) (replicate 8 0)) = c.from_le_bytes-2.ensures in
     e ∙ ap (from_le_bytes w64) (filled_up c.args.bytes.now c.copy_from_slice.new.self (length c.args.bytes.now) c.copy_from_slice.ensures.after (omega arith))

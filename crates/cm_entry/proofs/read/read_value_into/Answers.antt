@@ -1,15 +1,39 @@
-use Rattle.std.proofs.Common.{◌∙◌}
-use Rattle.cm_words.proofs.MeterCounts.{survives_transitive}
-use Rattle.cm_words.proofs.FittingLists.{reads_transitive}
+use Rattle.std.proofs.Common.{arith, refl}
+use Rattle.cm_plain.specs.declared.reply.Pair.{Pair}
+use Rattle.cm_words.specs.Effects.{IsAsBefore, Reads}
+use Rattle.cm_words.proofs.CallSequences.{done_by, loads_then_err}
+use Rattle.cm_entry.proofs.EntryParts.{copy_by, keeps_rest_err, rest_behind}
+use Rattle.cm_entry.proofs.LoadCounts.{counted_after, counted_err, loads_once_err}
 use Rattle.cm_entry.proofs.read.read_value_into.Goals as goal
 
+pub copy_bytes-requires-clause-room : goal.copy_bytes-requires-clause-room
+copy_bytes-requires-clause-room g c = omega (arith, c.in_ok-span.ensures.span.within_limit)
+
+pub returns-in_err-span-clause-loads : goal.returns-in_err-span-clause-loads
+returns-in_err-span-clause-loads g c =
+    counted_err g.M.Mem.seen g.M.Mem.same_rest _ c.value_span.new.mem c.from_residual.result c.from_residual.ensures.0
+    (loads_once_err g.M.Mem.seen g.M.Mem.same_rest _ c.value_span.new.mem _ c.from_residual.result c.from_residual.ensures.0 c.in_err-span.ensures.loads) _
+
+pub returns-in_err-span-clause-behind : goal.returns-in_err-span-clause-behind
+returns-in_err-span-clause-behind g c = keeps_rest_err 4096 c.args.out.now _ c.from_residual.result c.from_residual.ensures.0 refl
+
+pub returns-in_err-copy_bytes-clause-loads : goal.returns-in_err-copy_bytes-clause-loads
+returns-in_err-copy_bytes-clause-loads g c =
+    counted_err g.M.Mem.seen g.M.Mem.same_rest _ c.copy_bytes.new.mem c.from_residual-in_err-copy_bytes.result c.from_residual-in_err-copy_bytes.ensures.0
+    (loads_then_err g.M.Mem.seen g.M.Mem.same_rest _ c.value_span.new.mem c.copy_bytes.new.mem _ c.from_residual-in_err-copy_bytes.result c.from_residual-in_err-copy_bytes.ensures.0 (g.met.M.Mem.rest_transitive _ _ _)
+    (done_by g.M.Mem.seen g.M.Mem.same_rest Reads IsAsBefore _ _ _ c.in_ok-span.ensures.loads.call) c.in_err-copy_bytes.ensures.copied.counted.loads) _
+
+pub returns-in_err-copy_bytes-clause-behind : goal.returns-in_err-copy_bytes-clause-behind
+returns-in_err-copy_bytes-clause-behind g c =
+    keeps_rest_err 4096 c.args.out.now c.copy_bytes.new.out c.from_residual-in_err-copy_bytes.result c.from_residual-in_err-copy_bytes.ensures.0
+    (rest_behind c.args.out.now c.copy_bytes.new.out c.in_ok-span.span.len 4096 c.in_ok-span.ensures.span.within_limit c.copy_bytes.ensures.behind)
+
+pub returns-clause-loads : goal.returns-clause-loads
+returns-clause-loads g c =
+    counted_after g.M.Mem.seen g.M.Mem.same_rest _ c.value_span.new.mem c.copy_bytes.new.mem _ _ _ _ (g.met.M.Mem.rest_transitive _ _ _)
+    (done_by g.M.Mem.seen g.M.Mem.same_rest Reads IsAsBefore _ _ _ c.in_ok-span.ensures.loads.call) c.in_ok-copy_bytes.ensures.copied.counted (omega (arith, c.in_ok-span.ensures.loads.event.events))
+
 pub returns-clause-value : goal.returns-clause-value
-returns-clause-value g c words fits pair stands =
-    let here = c.in_ok-span.ensures.value words (c.in_ok-copy_bytes.ensures.reads.fits words fits) pair stands in
-    (here.len_is, c.in_ok-copy_bytes.ensures.copied words fits ∙ here.bytes_are)
-
-pub returns-clause-fuse : goal.returns-clause-fuse
-returns-clause-fuse g c = record { survives = survives_transitive _ (g.M.Mem.seen c.value_span.new.mem).meter _ c.in_ok-span.ensures.fuse.survives c.in_ok-copy_bytes.ensures.fuse.survives; killed = tt }
-
-pub returns-clause-reads : goal.returns-clause-reads
-returns-clause-reads g c = reads_transitive _ (g.M.Mem.seen c.value_span.new.mem) _ c.in_ok-span.ensures.reads c.in_ok-copy_bytes.ensures.reads
+returns-clause-value g c =
+    copy_by (g.M.Mem.seen c.value_span.new.mem) (g.M.Mem.seen c.copy_bytes.new.mem) c.args.geo.now c.args.place c.args.chunk _ c.in_ok-span.span (λ (pair : Pair). pair.value) c.copy_bytes.new.out
+    c.in_ok-span.ensures.span.within_limit c.in_ok-span.ensures.span.stands c.in_ok-copy_bytes.ensures.copied.counted.loads.done c.in_ok-copy_bytes.ensures.copied.answer

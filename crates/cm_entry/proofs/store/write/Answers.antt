@@ -1,89 +1,74 @@
-use Rattle.std.proofs.Common.{ℕ, arith, ap, sym, subst, ◌∙◌, Ok}
+use Rattle.std.proofs.Common.{ℕ, ◌+◌, ◌++◌, arith, ap, sym, subst, ◌∙◌, [], ◌∷◌}
+use Rattle.cm_geo.specs.Addresses.{chunk_at}
 use Rattle.cm_geo.specs.Hash.{hash}
 use Rattle.cm_geo.proofs.AddressOrder.{segment_limit}
-use Rattle.cm_words.specs.Effects.{MayStoreAll, Writes, WritesPrefix}
-use Rattle.cm_words.proofs.MeterCounts.{reports_after, survives_transitive}
-use Rattle.cm_words.proofs.FittingLists.{prefix_none, on_err}
-use Rattle.cm_entry.specs.Writing.{entry_stores}
-use Rattle.cm_entry.proofs.Writing.{behind_heads, entry_stands, prefix_key_words, prefix_value, geo_kept, may_first, may_key_words, may_value, room_in, so_far_is, writes_entry}
+use Rattle.cm_words.specs.Effects.{IsAsBefore}
+use Rattle.cm_words.specs.Stores.{MayStoreAll, Writes, WritesPrefix, store_at}
+use Rattle.cm_words.proofs.CallSequences.{done_by, done_then, ends_err, ends_ok, then_err}
+use Rattle.cm_words.proofs.FittingLists.{keeps_transitive}
+use Rattle.cm_words.proofs.StoreLists.{prefix_none, writes_append}
+use Rattle.cm_entry.specs.Packing.{words_of}
+use Rattle.cm_entry.specs.EntryStores.{entry_stores, stores_from, value_stores}
+use Rattle.cm_entry.proofs.EntryStores.{behind_heads, entry_stands, may_first, may_key_words, may_value, prefix_after_key, prefix_key_words, room_in, so_far_is, storable_key, storable_value, writes_joined}
 use Rattle.cm_entry.proofs.store.write.Goals as goal
 
 pub store-requires-clause-inner : goal.store-requires-clause-inner
 store-requires-clause-inner g c = behind_heads c.args.geo.now c.args.place c.args.chunk c.chunk_at-at.result c.chunk_at-at.ensures.value
 
 pub store-requires-clause-allowed : goal.store-requires-clause-allowed
-store-requires-clause-allowed g c =
-    may_first (g.M.Mem.seen c.args.mem.now) c.chunk_at-at.result c.head_of-head.result c.args.key.now c.args.value.now c.head_of-head.ensures
-    (subst (λ (n : ℕ). MayStoreAll (g.M.Mem.seen c.args.mem.now) (entry_stores n c.args.key.now c.args.value.now)) (sym c.chunk_at-at.ensures.value) c.requires.allowed)
+store-requires-clause-allowed g c = may_first (g.M.Mem.seen c.args.mem.now) c.chunk_at-at.result c.head_of-head.result c.args.key.now c.args.value.now c.head_of-head.ensures (subst (λ (n : ℕ). MayStoreAll (g.M.Mem.seen c.args.mem.now) (entry_stores n c.args.key.now c.args.value.now)) (sym c.chunk_at-at.ensures.value) c.requires.allowed)
 
-pub returns-in_err-store-clause-dead : goal.returns-in_err-store-clause-dead
-returns-in_err-store-clause-dead g c = on_err _ (prefix_none _ _ _ c.in_err-store.ensures.dead.reads)
+pub returns-in_err-store-clause-stores : goal.returns-in_err-store-clause-stores
+returns-in_err-store-clause-stores g c =
+    ends_err g.M.Mem.seen g.M.Mem.same_rest (λ old now. Writes old now (store_at c.chunk_at-at.result c.head_of-head.result ∷ [])) IsAsBefore (λ old now. Writes old now (entry_stores (chunk_at c.args.geo.now c.args.place c.args.chunk) c.args.key.now c.args.value.now)) (λ old now. WritesPrefix old now (entry_stores (chunk_at c.args.geo.now c.args.place c.args.chunk) c.args.key.now c.args.value.now)) _ c.store.new.self _ c.from_residual.result c.from_residual.ensures.0 c.in_err-store.ensures.stores.call (λ same. prefix_none _ _ _ same.reads)
 
 pub overflow_add-at : goal.overflow_add-at
 overflow_add-at g c =
-    let room = room_in (g.M.Mem.seen c.args.mem.now) c.args.geo.now c.args.place c.args.chunk c.chunk_at-at.result c.args.key.now c.args.value.now c.requires.geo c.chunk_at-at.ensures.value
-    (record { place_low = c.requires.place; fits = c.requires.fits; run = c.requires.run }) in
+    let room = room_in (g.M.Mem.seen c.args.mem.now) c.args.geo.now c.args.place c.args.chunk c.chunk_at-at.result c.args.key.now c.args.value.now c.requires.writable.geo_is c.chunk_at-at.ensures.value c.requires.room in
     omega (arith, room, segment_limit (g.M.Mem.seen c.args.mem.now).setting.geo)
 
-pub store_bytes-requires-clause-in_range : goal.store_bytes-requires-clause-in_range
-store_bytes-requires-clause-in_range g c =
-    let room = room_in (g.M.Mem.seen c.store.new.self) c.args.geo.now c.args.place c.args.chunk c.chunk_at-at.result c.args.key.now c.args.value.now
-    (geo_kept (g.M.Mem.seen c.args.mem.now) (g.M.Mem.seen c.store.new.self) c.args.geo.now c.requires.geo c.in_ok-store.ensures.writes.kept) c.chunk_at-at.ensures.value
-    (record { place_low = c.requires.place; fits = c.requires.fits; run = c.requires.run }) in
-    omega (arith, room)
+pub store_bytes-requires-clause-room : goal.store_bytes-requires-clause-room
+store_bytes-requires-clause-room g c = storable_key (g.M.Mem.seen c.args.mem.now) (g.M.Mem.seen c.store.new.self) c.args.geo.now c.args.place c.args.chunk c.chunk_at-at.result c.args.key.now c.args.value.now c.requires.writable c.requires.room c.in_ok-store.ensures.stores.call.done.kept c.chunk_at-at.ensures.value
 
 pub store_bytes-requires-clause-allowed : goal.store_bytes-requires-clause-allowed
-store_bytes-requires-clause-allowed g c =
-    may_key_words (g.M.Mem.seen c.args.mem.now) (g.M.Mem.seen c.store.new.self) c.chunk_at-at.result c.head_of-head.result c.args.key.now c.args.value.now c.head_of-head.ensures
-    (subst (λ (n : ℕ). MayStoreAll (g.M.Mem.seen c.args.mem.now) (entry_stores n c.args.key.now c.args.value.now)) (sym c.chunk_at-at.ensures.value) c.requires.allowed) c.in_ok-store.ensures.writes
+store_bytes-requires-clause-allowed g c = may_key_words (g.M.Mem.seen c.args.mem.now) (g.M.Mem.seen c.store.new.self) c.chunk_at-at.result c.head_of-head.result c.args.key.now c.args.value.now c.head_of-head.ensures (subst (λ (n : ℕ). MayStoreAll (g.M.Mem.seen c.args.mem.now) (entry_stores n c.args.key.now c.args.value.now)) (sym c.chunk_at-at.ensures.value) c.requires.allowed) c.in_ok-store.ensures.stores.call.done
 
-pub returns-in_err-over_key-clause-dead : goal.returns-in_err-over_key-clause-dead
-returns-in_err-over_key-clause-dead g c =
-    on_err _
-    (subst (λ (n : ℕ). WritesPrefix (g.M.Mem.seen c.args.mem.now) (g.M.Mem.seen c.store_bytes.new.mem) (entry_stores n c.args.key.now c.args.value.now)) c.chunk_at-at.ensures.value
-    (prefix_key_words (g.M.Mem.seen c.args.mem.now) (g.M.Mem.seen c.store.new.self) (g.M.Mem.seen c.store_bytes.new.mem) c.chunk_at-at.result c.head_of-head.result c.args.key.now c.args.value.now c.head_of-head.ensures
-    c.in_ok-store.ensures.writes c.in_err-over_key.ensures.dead))
+pub returns-in_err-over_key-clause-stores : goal.returns-in_err-over_key-clause-stores
+returns-in_err-over_key-clause-stores g c =
+    then_err g.M.Mem.seen g.M.Mem.same_rest (λ old now. Writes old now (store_at c.chunk_at-at.result c.head_of-head.result ∷ [])) (λ old now. Writes old now (stores_from (c.chunk_at-at.result + 2) (words_of c.args.key.now))) (λ old now. WritesPrefix old now (stores_from (c.chunk_at-at.result + 2) (words_of c.args.key.now))) (λ old now. Writes old now (entry_stores (chunk_at c.args.geo.now c.args.place c.args.chunk) c.args.key.now c.args.value.now)) (λ old now. WritesPrefix old now (entry_stores (chunk_at c.args.geo.now c.args.place c.args.chunk) c.args.key.now c.args.value.now)) _ c.store.new.self c.store_bytes.new.mem _ c.from_residual-in_err-over_key.result c.from_residual-in_err-over_key.ensures.0 (g.met.M.Mem.rest_transitive _ _ _) (done_by g.M.Mem.seen g.M.Mem.same_rest (λ old now. Writes old now (store_at c.chunk_at-at.result c.head_of-head.result ∷ [])) IsAsBefore _ _ _ c.in_ok-store.ensures.stores.call) c.in_err-over_key.ensures.stores
+    (λ first front. (subst (λ (n : ℕ). WritesPrefix (g.M.Mem.seen c.args.mem.now) (g.M.Mem.seen c.store_bytes.new.mem) (entry_stores n c.args.key.now c.args.value.now)) c.chunk_at-at.ensures.value
+    (prefix_key_words (g.M.Mem.seen c.args.mem.now) (g.M.Mem.seen c.store.new.self) (g.M.Mem.seen c.store_bytes.new.mem) c.chunk_at-at.result c.head_of-head.result c.args.key.now c.args.value.now c.head_of-head.ensures first front)))
 
-pub store_value-requires-clause-inner : goal.store_value-requires-clause-inner
-store_value-requires-clause-inner g c = behind_heads c.args.geo.now c.args.place c.args.chunk c.chunk_at-at.result c.chunk_at-at.ensures.value
-
-pub store_value-requires-clause-in_range : goal.store_value-requires-clause-in_range
-store_value-requires-clause-in_range g c =
-    room_in (g.M.Mem.seen c.store_bytes.new.mem) c.args.geo.now c.args.place c.args.chunk c.chunk_at-at.result c.args.key.now c.args.value.now
-    (geo_kept (g.M.Mem.seen c.store.new.self) (g.M.Mem.seen c.store_bytes.new.mem) c.args.geo.now
-    (geo_kept (g.M.Mem.seen c.args.mem.now) (g.M.Mem.seen c.store.new.self) c.args.geo.now c.requires.geo c.in_ok-store.ensures.writes.kept) c.in_ok-over_key.ensures.stored.kept) c.chunk_at-at.ensures.value
-    (record { place_low = c.requires.place; fits = c.requires.fits; run = c.requires.run })
+pub store_value-requires-clause-room : goal.store_value-requires-clause-room
+store_value-requires-clause-room g c =
+    storable_value (g.M.Mem.seen c.args.mem.now) (g.M.Mem.seen c.store_bytes.new.mem) c.args.geo.now c.args.place c.args.chunk c.chunk_at-at.result c.args.key.now c.args.value.now c.requires.writable c.requires.room
+    (keeps_transitive (g.M.Mem.seen c.args.mem.now) (g.M.Mem.seen c.store.new.self) (g.M.Mem.seen c.store_bytes.new.mem) c.in_ok-store.ensures.stores.call.done.kept c.in_ok-over_key.ensures.stores.done.kept) c.chunk_at-at.ensures.value
 
 pub store_value-requires-clause-so_far : goal.store_value-requires-clause-so_far
-store_value-requires-clause-so_far g c =
-    so_far_is c.args.key.now c.args.value.now c.head_of-head.result c.hash-over_head.result c.in_ok-over_key.over_key c.head_of-head.ensures (c.hash-over_head.ensures ∙ ap hash c.to_le_bytes.ensures) c.in_ok-over_key.ensures.hashed
+store_value-requires-clause-so_far g c = so_far_is c.args.key.now c.args.value.now c.head_of-head.result c.hash-over_head.result c.in_ok-over_key.over_key c.head_of-head.ensures (c.hash-over_head.ensures ∙ ap hash c.to_le_bytes.ensures) c.in_ok-over_key.ensures.hash
 
 pub store_value-requires-clause-allowed : goal.store_value-requires-clause-allowed
 store_value-requires-clause-allowed g c =
-    may_value (g.M.Mem.seen c.args.mem.now) (g.M.Mem.seen c.store.new.self) (g.M.Mem.seen c.store_bytes.new.mem) c.chunk_at-at.result c.head_of-head.result c.args.key.now c.args.value.now c.head_of-head.ensures
-    (subst (λ (n : ℕ). MayStoreAll (g.M.Mem.seen c.args.mem.now) (entry_stores n c.args.key.now c.args.value.now)) (sym c.chunk_at-at.ensures.value) c.requires.allowed) c.in_ok-store.ensures.writes c.in_ok-over_key.ensures.stored
+    may_value (g.M.Mem.seen c.args.mem.now) (g.M.Mem.seen c.store.new.self) (g.M.Mem.seen c.store_bytes.new.mem) c.chunk_at-at.result c.head_of-head.result c.args.key.now c.args.value.now c.head_of-head.ensures (subst (λ (n : ℕ). MayStoreAll (g.M.Mem.seen c.args.mem.now) (entry_stores n c.args.key.now c.args.value.now)) (sym c.chunk_at-at.ensures.value) c.requires.allowed) c.in_ok-store.ensures.stores.call.done c.in_ok-over_key.ensures.stores.done
 
-pub returns-in_err-store_value-clause-dead : goal.returns-in_err-store_value-clause-dead
-returns-in_err-store_value-clause-dead g c =
-    on_err _
-    (subst (λ (n : ℕ). WritesPrefix (g.M.Mem.seen c.args.mem.now) (g.M.Mem.seen c.store_value.new.mem) (entry_stores n c.args.key.now c.args.value.now)) c.chunk_at-at.ensures.value
-    (prefix_value (g.M.Mem.seen c.args.mem.now) (g.M.Mem.seen c.store.new.self) (g.M.Mem.seen c.store_bytes.new.mem) (g.M.Mem.seen c.store_value.new.mem) c.chunk_at-at.result c.head_of-head.result c.args.key.now c.args.value.now c.head_of-head.ensures
-    c.in_ok-store.ensures.writes c.in_ok-over_key.ensures.stored c.in_err-store_value.ensures.dead))
+pub returns-in_err-store_value-clause-stores : goal.returns-in_err-store_value-clause-stores
+returns-in_err-store_value-clause-stores g c =
+    then_err g.M.Mem.seen g.M.Mem.same_rest (λ old now. Writes old now (store_at c.chunk_at-at.result c.head_of-head.result ∷ stores_from (c.chunk_at-at.result + 2) (words_of c.args.key.now))) (λ old now. Writes old now (value_stores c.chunk_at-at.result c.args.key.now c.args.value.now)) (λ old now. WritesPrefix old now (value_stores c.chunk_at-at.result c.args.key.now c.args.value.now)) (λ old now. Writes old now (entry_stores (chunk_at c.args.geo.now c.args.place c.args.chunk) c.args.key.now c.args.value.now)) (λ old now. WritesPrefix old now (entry_stores (chunk_at c.args.geo.now c.args.place c.args.chunk) c.args.key.now c.args.value.now)) _ c.store_bytes.new.mem c.store_value.new.mem _ c.from_residual-in_err-store_value.result c.from_residual-in_err-store_value.ensures.0 (g.met.M.Mem.rest_transitive _ _ _)
+    (done_then g.M.Mem.seen g.M.Mem.same_rest (λ old now. Writes old now (store_at c.chunk_at-at.result c.head_of-head.result ∷ [])) (λ old now. Writes old now (stores_from (c.chunk_at-at.result + 2) (words_of c.args.key.now))) (λ old now. Writes old now (store_at c.chunk_at-at.result c.head_of-head.result ∷ stores_from (c.chunk_at-at.result + 2) (words_of c.args.key.now))) _ c.store.new.self _ (g.met.M.Mem.rest_transitive _ _ _) (done_by g.M.Mem.seen g.M.Mem.same_rest (λ old now. Writes old now (store_at c.chunk_at-at.result c.head_of-head.result ∷ [])) IsAsBefore _ _ _ c.in_ok-store.ensures.stores.call) (done_by g.M.Mem.seen g.M.Mem.same_rest (λ old now. Writes old now (stores_from (c.chunk_at-at.result + 2) (words_of c.args.key.now))) (λ old now. WritesPrefix old now (stores_from (c.chunk_at-at.result + 2) (words_of c.args.key.now))) _ _ _ c.in_ok-over_key.ensures.stores) (λ first words. writes_append (g.M.Mem.seen c.args.mem.now) (g.M.Mem.seen c.store.new.self) (g.M.Mem.seen c.store_bytes.new.mem) (store_at c.chunk_at-at.result c.head_of-head.result ∷ []) (stores_from (c.chunk_at-at.result + 2) (words_of c.args.key.now)) first words)) c.in_err-store_value.ensures
+    (λ written front. (subst (λ (n : ℕ). WritesPrefix (g.M.Mem.seen c.args.mem.now) (g.M.Mem.seen c.store_value.new.mem) (entry_stores n c.args.key.now c.args.value.now)) c.chunk_at-at.ensures.value
+    (prefix_after_key (g.M.Mem.seen c.args.mem.now) (g.M.Mem.seen c.store_bytes.new.mem) (g.M.Mem.seen c.store_value.new.mem) c.chunk_at-at.result c.head_of-head.result c.args.key.now c.args.value.now c.head_of-head.ensures written front)))
 
-pub returns-clause-fuse : goal.returns-clause-fuse
-returns-clause-fuse g c =
-    reports_after _ _ _ (Ok tt) (survives_transitive _ (g.M.Mem.seen c.store.new.self).meter _ c.in_ok-store.ensures.fuse.survives c.in_ok-over_key.ensures.fuse.survives) c.in_ok-store_value.ensures.fuse
-
-stored : goal.returns-clause-stored
+stored : goal.returns-clause-stores
 stored g c =
-    subst (λ (n : ℕ). Writes (g.M.Mem.seen c.args.mem.now) (g.M.Mem.seen c.store_value.new.mem) (entry_stores n c.args.key.now c.args.value.now)) c.chunk_at-at.ensures.value
-    (writes_entry (g.M.Mem.seen c.args.mem.now) (g.M.Mem.seen c.store.new.self) (g.M.Mem.seen c.store_bytes.new.mem) (g.M.Mem.seen c.store_value.new.mem) c.chunk_at-at.result c.head_of-head.result c.args.key.now c.args.value.now c.head_of-head.ensures
-    c.in_ok-store.ensures.writes c.in_ok-over_key.ensures.stored c.in_ok-store_value.ensures.stored)
+    ends_ok g.M.Mem.seen g.M.Mem.same_rest (λ old now. Writes old now (entry_stores (chunk_at c.args.geo.now c.args.place c.args.chunk) c.args.key.now c.args.value.now)) (λ old now. WritesPrefix old now (entry_stores (chunk_at c.args.geo.now c.args.place c.args.chunk) c.args.key.now c.args.value.now)) _ c.store_value.new.mem _
+    (done_then g.M.Mem.seen g.M.Mem.same_rest (λ old now. Writes old now (store_at c.chunk_at-at.result c.head_of-head.result ∷ stores_from (c.chunk_at-at.result + 2) (words_of c.args.key.now))) (λ old now. Writes old now (value_stores c.chunk_at-at.result c.args.key.now c.args.value.now)) (λ old now. Writes old now (entry_stores (chunk_at c.args.geo.now c.args.place c.args.chunk) c.args.key.now c.args.value.now)) _ c.store_bytes.new.mem _ (g.met.M.Mem.rest_transitive _ _ _)
+    (done_then g.M.Mem.seen g.M.Mem.same_rest (λ old now. Writes old now (store_at c.chunk_at-at.result c.head_of-head.result ∷ [])) (λ old now. Writes old now (stores_from (c.chunk_at-at.result + 2) (words_of c.args.key.now))) (λ old now. Writes old now (store_at c.chunk_at-at.result c.head_of-head.result ∷ stores_from (c.chunk_at-at.result + 2) (words_of c.args.key.now))) _ c.store.new.self _ (g.met.M.Mem.rest_transitive _ _ _) (done_by g.M.Mem.seen g.M.Mem.same_rest (λ old now. Writes old now (store_at c.chunk_at-at.result c.head_of-head.result ∷ [])) IsAsBefore _ _ _ c.in_ok-store.ensures.stores.call) (done_by g.M.Mem.seen g.M.Mem.same_rest (λ old now. Writes old now (stores_from (c.chunk_at-at.result + 2) (words_of c.args.key.now))) (λ old now. WritesPrefix old now (stores_from (c.chunk_at-at.result + 2) (words_of c.args.key.now))) _ _ _ c.in_ok-over_key.ensures.stores) (λ first words. writes_append (g.M.Mem.seen c.args.mem.now) (g.M.Mem.seen c.store.new.self) (g.M.Mem.seen c.store_bytes.new.mem) (store_at c.chunk_at-at.result c.head_of-head.result ∷ []) (stores_from (c.chunk_at-at.result + 2) (words_of c.args.key.now)) first words)) (done_by g.M.Mem.seen g.M.Mem.same_rest (λ old now. Writes old now (value_stores c.chunk_at-at.result c.args.key.now c.args.value.now)) (λ old now. WritesPrefix old now (value_stores c.chunk_at-at.result c.args.key.now c.args.value.now)) _ _ _ c.in_ok-store_value.ensures)
+    (λ written last. (subst (λ (n : ℕ). Writes (g.M.Mem.seen c.args.mem.now) (g.M.Mem.seen c.store_value.new.mem) (entry_stores n c.args.key.now c.args.value.now)) c.chunk_at-at.ensures.value
+    (writes_joined (g.M.Mem.seen c.args.mem.now) (g.M.Mem.seen c.store_bytes.new.mem) (g.M.Mem.seen c.store_value.new.mem) c.chunk_at-at.result c.head_of-head.result c.args.key.now c.args.value.now c.head_of-head.ensures written last))))
 
-pub returns-clause-stored : goal.returns-clause-stored
-returns-clause-stored g c = stored g c
+pub returns-clause-stores : goal.returns-clause-stores
+returns-clause-stores g c = stored g c
 
 pub returns-clause-stands : goal.returns-clause-stands
 returns-clause-stands g c =
-    entry_stands (g.M.Mem.seen c.args.mem.now) (g.M.Mem.seen c.store_value.new.mem) c.args.geo.now c.args.place c.args.chunk c.args.key.now c.args.value.now c.requires.geo (λ i. omega (arith, c.type_inv.key i)) (λ i. omega (arith, c.type_inv.value i))
-    (record { place_low = c.requires.place; fits = c.requires.fits; run = c.requires.run }) (stored g c)
+    entry_stands (g.M.Mem.seen c.args.mem.now) (g.M.Mem.seen c.store_value.new.mem) c.args.geo.now c.args.place c.args.chunk c.args.key.now c.args.value.now c.requires.writable.geo_is (λ i. omega (arith, c.type_inv.key i)) (λ i. omega (arith, c.type_inv.value i)) c.requires.room (stored g c).done

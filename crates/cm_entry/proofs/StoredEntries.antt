@@ -12,18 +12,12 @@ use Rattle.cm_geo.proofs.Ranges.{chunk_words_range}
 use Rattle.cm_plain.proofs.EntryWords.{words_within}
 use Rattle.cm_plain.specs.Readings.{HasEntry, bytes_at, bytes_of, checksum, entry, entry_checksum, head_of, is_padded, key_bytes, key_len, lengths_fit, padded, reading_at, reading_of, value_bytes, value_len}
 use Rattle.cm_plain.proofs.Padding.{IsRead, bytes_len, padded_is, is_read, whole_words}
-use Rattle.cm_words.specs.Effects.{after_stores}
-use Rattle.cm_words.proofs.FittingLists.{after_stores_on}
+use Rattle.cm_words.specs.Stores.{WordStore, after_stores, store_at}
+use Rattle.cm_words.proofs.StoreLists.{after_stores_append}
 use Rattle.cm_entry.specs.Packing.{words_of}
-use Rattle.cm_entry.specs.Writing.{HasKey, entry_stores, head_stores, replacing_stores, stores_from, value_stores}
+use Rattle.cm_entry.specs.EntryStores.{HasKey, HasRoom, entry_stores, head_stores, replacing_stores, stores_from, value_stores}
 use Rattle.cm_entry.proofs.Packing.{AreBytes, bytes_of_words, words_len}
-use Rattle.cm_entry.proofs.WritingStores.{after_here, after_len, after_other, part_is, part_same}
-
--- an entry may stand at a chunk
-pub record IsRoom (geo : Geo) (place chunk : ℕ) (key value : List ℕ) : Type 0 where
-  pub place_low : place < geo.tiers
-  pub fits : Fits geo (length key) (length value)
-  pub run : chunk + need geo (length key) (length value) ≤ geo.chunks
+use Rattle.cm_entry.proofs.WordStores.{after_here, after_len, after_other, part_is, part_same}
 
 -- the words of an entry with these lengths are words of the segment
 pub inside_run : (geo : Geo) (place chunk key_len value_len : ℕ) → place < geo.tiers → chunk + need geo key_len value_len ≤ geo.chunks
@@ -68,16 +62,16 @@ pub reading_entry : (geo : Geo) (chunk : ℕ) (key value : List ℕ) (head store
     → head ≡ head_of key value → stored_checksum ≡ entry_checksum key value → key_words ≡ padded key → value_words ≡ padded value
     → reading_of geo chunk head stored_checksum key_words value_words ≡ entry (record { key = key; value = value })
 unfolding entry_checksum
-reading_entry geo chunk key value head stored_checksum key_words value_words fits run head_is sum_is key_is value_is =
+reading_entry geo chunk key value head stored_checksum key_words value_words fits run head_is checksum_is key_is value_is =
     let k : key_len head ≡ length key = ap key_len head_is ∙ key_len_is (length key) (length value) fits.key_short in
     let v : value_len head ≡ length value = ap value_len head_is ∙ value_len_is (length key) (length value) fits.key_short in
     let lengths : lengths_fit geo chunk head ≡ true = lengths_are geo chunk (length key) (length value) fits run head k v in
-    let summed : (checksum head key_words value_words == stored_checksum) ≡ true = rw (head_is, sum_is, key_is, value_is) (same_eqb (checksum (head_of key value) (padded key) (padded value))) in
+    let summed : (checksum head key_words value_words == stored_checksum) ≡ true = rw (head_is, checksum_is, key_is, value_is) (same_eqb (checksum (head_of key value) (padded key) (padded value))) in
     let key_full : is_padded (key_len head) key_words ≡ true = rw (k, key_is) (padded_all key) in
     let value_full : is_padded (value_len head) value_words ≡ true = rw (v, value_is) (padded_all value) in
-    let key_front : take (key_len head) key_words ≡ key = rw (k, key_is) (padded_prefix key) in
-    let value_front : take (value_len head) value_words ≡ value = rw (v, value_is) (padded_prefix value) in
-    rw (lengths, summed, key_full, value_full, key_front, value_front) refl
+    let key_prefix : take (key_len head) key_words ≡ key = rw (k, key_is) (padded_prefix key) in
+    let value_prefix : take (value_len head) value_words ≡ value = rw (v, value_is) (padded_prefix value) in
+    rw (lengths, summed, key_full, value_full, key_prefix, value_prefix) refl
 
 -- the words of an entry stand from an address on
 pub record EntryWords (words : List ℕ) (at : ℕ) (key value : List ℕ) : Type 0 where
@@ -87,7 +81,7 @@ pub record EntryWords (words : List ℕ) (at : ℕ) (key value : List ℕ) : Typ
   pub value_words : bytes_of (take (parts_for 8 (length value)) (drop (at + 2 + parts_for 8 (length key)) words)) ≡ padded value
 
 -- so the entry does
-pub words_stand : (geo : Geo) (words : List ℕ) (place chunk : ℕ) (key value : List ℕ) → IsRoom geo place chunk key value → EntryWords words (chunk_at geo place chunk) key value → HasEntry geo words place chunk key value
+pub words_stand : (geo : Geo) (words : List ℕ) (place chunk : ℕ) (key value : List ℕ) → HasRoom geo place chunk key value → EntryWords words (chunk_at geo place chunk) key value → HasEntry geo words place chunk key value
 unfolding reading_at
 words_stand geo words place chunk key value room stored =
     let at = chunk_at geo place chunk in
@@ -112,7 +106,7 @@ value_stored words at key value small room head_is key_is =
     let mid : List ℕ = after_stores words (stores_from from (words_of value)) in
     let long : length mid ≡ length words = after_len words (stores_from from (words_of value)) in
     let count : length (words_of value) ≡ pv = words_len value in
-    let end : after_stores words (value_stores at key value) ≡ slice_set mid (at + 1) (entry_checksum key value) = after_stores_on words (stores_from from (words_of value)) ((at + 1, entry_checksum key value) ∷ []) in
+    let end : after_stores words (value_stores at key value) ≡ slice_set mid (at + 1) (entry_checksum key value) = after_stores_append words (stores_from from (words_of value)) (store_at (at + 1) (entry_checksum key value) ∷ []) in
     let all : List ℕ = slice_set mid (at + 1) (entry_checksum key value) in
     let all_long : length all ≡ length words = length-set mid (at + 1) (entry_checksum key value) ∙ long in
     let there : at + 1 < length mid = room_for at pk pv (length words) (length mid) long room in
@@ -168,7 +162,7 @@ entry_stored words at key value key_small value_small room =
     let inside : at + 2 + length (words_of key) ≤ length first = rw (count, first_long) (within at pk pv (length words) room) in
     let key_is : take pk (drop (at + 2) mid) ≡ words_of key
     = part_is mid (words_of key) (at + 2) pk count (rw long (within at pk pv (length words) room)) (λ j h. after_here first (at + 2) (words_of key) j inside (rw count h)) in
-    rw (after_stores_on first (stores_from (at + 2) (words_of key)) (value_stores at key value))
+    rw (after_stores_append first (stores_from (at + 2) (words_of key)) (value_stores at key value))
     (value_stored mid at key value value_small (rw long room) head_is (ap bytes_of key_is ∙ bytes_of_words key key_small))
   where
     room_for : (at pk pv n : ℕ) → at + 2 + pk + pv ≤ n → at < n
@@ -230,7 +224,7 @@ stood geo words place chunk key value length_is low has =
     same_sum head head' key key' value value' e f g = rw (e, f, g) refl
 
 -- the stores of another value, where an entry of the key stands
-pub value_replaced : (geo : Geo) (words : List ℕ) (place chunk : ℕ) (key value : List ℕ) → AreBytes value → IsRoom geo place chunk key value → length words ≡ words_in_segment geo → HasKey geo words place chunk key
+pub value_replaced : (geo : Geo) (words : List ℕ) (place chunk : ℕ) (key value : List ℕ) → AreBytes value → HasRoom geo place chunk key value → length words ≡ words_in_segment geo → HasKey geo words place chunk key
     → EntryWords (after_stores words (replacing_stores (chunk_at geo place chunk) key value words)) (chunk_at geo place chunk) key value
 unfolding replacing_stores
 value_replaced geo words place chunk key value small room length_is has =
@@ -240,7 +234,7 @@ value_replaced geo words place chunk key value small room length_is has =
     let key_is = (stood geo words place chunk key has.0 length_is room.place_low has.1).key_words in
     let pk : ℕ = parts_for 8 (length key) in
     let pv : ℕ = parts_for 8 (length value) in
-    rw (after_stores_on words (head_stores at head words) (value_stores at key value))
+    rw (after_stores_append words (head_stores at head words) (value_stores at key value))
     (elim (eqb_tells (get_or words at 0) head) [
       | inl same ↦ rw same.0 (value_stored words at key value small (rw length_is inside) same.1 key_is)
       | inr other ↦ rw other.0 (value_stored (slice_set words at head) at key value small

@@ -2,8 +2,8 @@
 use Rattle.std.proofs.Common.{◌≡◌, ◌≢◌, ℕ, zero, suc, ◌+◌, ◌<◌, ◌≤◌, ◌⊎◌, List, [], ◌∷◌, ◌++◌, length, take, drop, get_or, slice_set, refl, ap, sym, ◌∙◌, arith, inl, inr, get_or-set_other, get_or-set_same, length-set}
 use Rattle.std.proofs.lemmas.List.{get_or-drop, get_or-take, length-drop, length-take-le, take-append-drop, take_more, drop_more}
 use Rattle.std.proofs.lemmas.List.FromFn.{fill_by_all}
-use Rattle.cm_words.specs.Effects.{after_stores}
-use Rattle.cm_entry.specs.Writing.{stores_from}
+use Rattle.cm_words.specs.Stores.{WordStore, after_stores, store_at}
+use Rattle.cm_entry.specs.EntryStores.{stores_from}
 
 -- stores of words, and of words behind them
 pub stores_append : (at : ℕ) (xs ys : List ℕ) → stores_from at (xs ++ ys) ≡ stores_from at xs ++ stores_from (at + length xs) ys
@@ -11,7 +11,7 @@ stores_append at [] ys = ap (λ (n : ℕ). stores_from n ys) (nothing at)
   where
     nothing : (n : ℕ) → n ≡ n + 0
     nothing n = omega arith
-stores_append at (x ∷ xs) ys = ap (λ (rest : List (ℕ × ℕ)). (at, x) ∷ rest) (stores_append (at + 1) xs ys ∙ ap (λ (n : ℕ). stores_from (at + 1) xs ++ stores_from n ys) (one_more at (length xs)))
+stores_append at (x ∷ xs) ys = ap (λ (rest : List WordStore). store_at at x ∷ rest) (stores_append (at + 1) xs ys ∙ ap (λ (n : ℕ). stores_from (at + 1) xs ++ stores_from n ys) (one_more at (length xs)))
   where
     one_more : (n m : ℕ) → n + 1 + m ≡ n + suc m
     one_more n m = omega arith
@@ -20,23 +20,23 @@ taken_len : (number : ℕ) (words : List ℕ) → number < length words → leng
 taken_len number words inside = length-take-le number words (omega arith)
 
 -- one word more
-pub stores_more : (at number : ℕ) (words : List ℕ) → number < length words → stores_from at (take (number + 1) words) ≡ stores_from at (take number words) ++ (at + number, get_or words number 0) ∷ []
+pub stores_more : (at number : ℕ) (words : List ℕ) → number < length words → stores_from at (take (number + 1) words) ≡ stores_from at (take number words) ++ store_at (at + number) (get_or words number 0) ∷ []
 stores_more at number words inside =
     ap (stores_from at) (take_more words number 0 inside) ∙ (stores_append at (take number words) (get_or words number 0 ∷ [])
-    ∙ ap (λ (n : ℕ). stores_from at (take number words) ++ (at + n, get_or words number 0) ∷ []) (taken_len number words inside))
+    ∙ ap (λ (n : ℕ). stores_from at (take number words) ++ store_at (at + n) (get_or words number 0) ∷ []) (taken_len number words inside))
 
 -- the stores up to one, that one, and those behind it
 pub stores_split : (at number : ℕ) (words : List ℕ) → number < length words
-    → stores_from at words ≡ stores_from at (take number words) ++ (at + number, get_or words number 0) ∷ stores_from (at + number + 1) (drop (number + 1) words)
+    → stores_from at words ≡ stores_from at (take number words) ++ store_at (at + number) (get_or words number 0) ∷ stores_from (at + number + 1) (drop (number + 1) words)
 stores_split at number words inside =
     ap (stores_from at) (sym (take-append-drop number words) ∙ ap (λ (rest : List ℕ). take number words ++ rest) (drop_more words number 0 inside))
     ∙ (stores_append at (take number words) (get_or words number 0 ∷ drop (number + 1) words)
-    ∙ ap (λ (n : ℕ). stores_from at (take number words) ++ (at + n, get_or words number 0) ∷ stores_from (at + n + 1) (drop (number + 1) words)) (taken_len number words inside))
+    ∙ ap (λ (n : ℕ). stores_from at (take number words) ++ store_at (at + n) (get_or words number 0) ∷ stores_from (at + n + 1) (drop (number + 1) words)) (taken_len number words inside))
 
 -- stores leave a list as long as it was
-pub after_len : (words : List ℕ) (stores : List (ℕ × ℕ)) → length (after_stores words stores) ≡ length words
+pub after_len : (words : List ℕ) (stores : List WordStore) → length (after_stores words stores) ≡ length words
 after_len words [] = refl
-after_len words (s ∷ stores) = after_len (slice_set words s.0 s.1) stores ∙ length-set words s.0 s.1
+after_len words (s ∷ stores) = after_len (slice_set words s.at s.word) stores ∙ length-set words s.at s.word
 
 -- and the words before and behind them
 pub after_other : (words : List ℕ) (at : ℕ) (stored : List ℕ) (other : ℕ) → (other < at) ⊎ (at + length stored ≤ other) → get_or (after_stores words (stores_from at stored)) other 0 ≡ get_or words other 0

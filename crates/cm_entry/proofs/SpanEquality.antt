@@ -1,5 +1,5 @@
 -- Comparing the bytes of a span with given ones, one word more at a time.
-use Rattle.std.proofs.Common.{◌≡◌, ℕ, ◌+◌, ◌-◌, ◌*◌, ◌<◌, ◌≤◌, ◌↔◌, ◌⊎◌, IsTrue, true, false, List, ◌++◌, length, get_or, take, drop, arith, refl, ap, sym, ◌∙◌, inl, inr, min, length-drop}
+use Rattle.std.proofs.Common.{◌≡◌, ℕ, ◌+◌, ◌-◌, ◌*◌, ◌<◌, ◌≤◌, ◌↔◌, ◌⊎◌, ◌/◌, ◌%◌, Bool, IsTrue, true, false, List, ◌++◌, length, get_or, take, drop, arith, refl, ap, sym, ◌∙◌, inl, inr, min, length-drop, subst}
 use Rattle.std.specs.Int.{to_le_bytes, w64}
 use Rattle.std.specs.List.{slice_range}
 use Rattle.std.proofs.lemmas.Bool.{cases_lt}
@@ -9,11 +9,11 @@ use Rattle.cm_geo.specs.Addresses.{words_in_segment}
 use Rattle.cm_geo.specs.Need.{parts_for}
 use Rattle.cm_words.specs.Memory.{FitsNotes, MemSeen}
 use Rattle.cm_words.specs.Effects.{Reads, Knows}
+use Rattle.cm_words.proofs.FittingLists.{known_word}
 use Rattle.cm_entry.specs.declared.span.Span.{Span}
 use Rattle.cm_entry.specs.Spans.{bytes_in, bytes_from}
-use Rattle.cm_entry.specs.Progress.{AreSame}
-use Rattle.cm_entry.proofs.SpanWords.{first_eight, part_begins, prefix_bytes, told_len, told_more, told_none}
-use Rattle.cm_entry.proofs.Summing.{told_word}
+use Rattle.cm_entry.specs.Progress.{EqualSoFar}
+use Rattle.cm_entry.proofs.SpanWords.{first_eight, part_begins, prefix_bytes, span_len, span_more, span_none}
 
 pub never : false ≡ true → ⊥
 never e = cc
@@ -21,13 +21,13 @@ never e = cc
 -- bytes of another number are others
 pub other_number : (words : List ℕ) (span : Span) (bytes : List ℕ) → span.at + parts_for 8 span.len ≤ length words → (length bytes ≡ span.len → ⊥) → IsTrue false ↔ (bytes_in words span ≡ bytes)
 other_number words span bytes within other =
-    (λ no. absurd (never no), λ e. absurd (other (sym (ap (λ (bs : List ℕ). length bs) e) ∙ told_len words span.at span.len (parts_for 8 span.len) within (holds span.len))))
+    (λ no. absurd (never no), λ e. absurd (other (sym (ap (λ (bs : List ℕ). length bs) e) ∙ span_len words span.at span.len (parts_for 8 span.len) within (holds span.len))))
   where
     holds : (len : ℕ) → len ≤ 8 * parts_for 8 len
     holds len = omega arith
 
-pub same_none : (m : MemSeen) (span : Span) (bytes : List ℕ) → AreSame m span bytes 0
-same_none m span bytes words fits = told_none words span.at span.len
+pub same_none : (m : MemSeen) (span : Span) (bytes : List ℕ) → EqualSoFar m span bytes 0
+same_none m span bytes words fits = span_none words span.at span.len
 
 -- the part of a list from one place to another
 pub part_more : (bytes : List ℕ) (from to : ℕ) → from ≤ to → from ≤ length bytes → take to bytes ≡ take from bytes ++ slice_range bytes from to
@@ -71,21 +71,21 @@ word_part span bytes part count from to word is =
     ap (λ (n : ℕ). take n (to_le_bytes w64 word)) (part_len span bytes part count from to is) ∙ first_eight word (span.len - 8 * count)
 
 -- one word more, which is that of the list
-pub same_more : (a b : MemSeen) (span : Span) (bytes part : List ℕ) (count from to word : ℕ) → AreSame a span bytes count → Reads a b → Knows b (span.at + count) word
-    → 0 < span.at → span.at + parts_for 8 span.len ≤ words_in_segment b.setting.geo → IsPart span bytes count from to part → take (length part) (to_le_bytes w64 word) ≡ part → AreSame b span bytes (count + 1)
+pub same_more : (a b : MemSeen) (span : Span) (bytes part : List ℕ) (count from to word : ℕ) → EqualSoFar a span bytes count → Reads a b → Knows b (span.at + count) word
+    → 1 < span.at → span.at + parts_for 8 span.len ≤ words_in_segment b.setting.geo → IsPart span bytes count from to part → take (length part) (to_le_bytes w64 word) ≡ part → EqualSoFar b span bytes (count + 1)
 same_more a b span bytes part count from to word same reads knows behind within is begins words fits =
     let below = is.below in
-    let here = told_word b span count word behind knows words fits in
+    let here = known_word b (span.at + count) (span.at + count) word (omega arith) refl knows words fits in
     let inside : span.at + count < length words = omega (arith, fits.are.length_is) in
-    told_more words span.at span.len count inside (omega (arith, part_begins span.len count below))
+    span_more words span.at span.len count inside (omega (arith, part_begins span.len count below))
     ∙ (ap (λ (bs : List ℕ). bs ++ take (span.len - 8 * count) (to_le_bytes w64 (get_or words (span.at + count) 0))) (same words (reads.fits words fits))
     ∙ (ap (λ (w : ℕ). take (8 * count) bytes ++ take (span.len - 8 * count) (to_le_bytes w64 w)) here
     ∙ (ap (λ (bs : List ℕ). take (8 * count) bytes ++ bs) (sym (word_part span bytes part count from to word is) ∙ begins)
     ∙ sym (part_next span bytes part count from to is))))
 
 -- one word that isn't that of the list
-pub differs : (a b : MemSeen) (span : Span) (bytes part : List ℕ) (count from to word : ℕ) → AreSame a span bytes count → Reads a b → Knows b (span.at + count) word
-    → 0 < span.at → span.at + parts_for 8 span.len ≤ words_in_segment b.setting.geo → IsPart span bytes count from to part → (take (length part) (to_le_bytes w64 word) ≡ part → ⊥)
+pub differs : (a b : MemSeen) (span : Span) (bytes part : List ℕ) (count from to word : ℕ) → EqualSoFar a span bytes count → Reads a b → Knows b (span.at + count) word
+    → 1 < span.at → span.at + parts_for 8 span.len ≤ words_in_segment b.setting.geo → IsPart span bytes count from to part → (take (length part) (to_le_bytes w64 word) ≡ part → ⊥)
     → (words : List ℕ) → FitsNotes b words → IsTrue false ↔ (bytes_in words span ≡ bytes)
 differs a b span bytes part count from to word same reads knows behind within is other words fits = (λ no. absurd (never no), λ e. absurd (other (begins e)))
   where
@@ -93,12 +93,12 @@ differs a b span bytes part count from to word same reads knows behind within is
     begins e =
         let below = is.below in
         let len_is = is.len_is in
-        let here = told_word b span count word behind knows words fits in
+        let here = known_word b (span.at + count) (span.at + count) word (omega arith) refl knows words fits in
         let inside : span.at + count < length words = omega (arith, fits.are.length_is) in
         let long : length (take (8 * count) bytes) ≡ 8 * count = length-take-le (8 * count) bytes (omega (arith, part_begins span.len count below)) in
         let told : take (8 * count) bytes ++ take (span.len - 8 * count) (to_le_bytes w64 (get_or words (span.at + count) 0)) ≡ take (8 * count) bytes ++ part =
         ap (λ (bs : List ℕ). bs ++ take (span.len - 8 * count) (to_le_bytes w64 (get_or words (span.at + count) 0))) (sym (same words (reads.fits words fits)))
-        ∙ (sym (told_more words span.at span.len count inside (omega (arith, part_begins span.len count below)))
+        ∙ (sym (span_more words span.at span.len count inside (omega (arith, part_begins span.len count below)))
         ∙ (prefix_bytes words span.at span.len (count + 1) (parts_for 8 span.len) (omega arith)
         ∙ (ap (λ (bs : List ℕ). take (8 * (count + 1)) bs) e ∙ part_next span bytes part count from to is))) in
         word_part span bytes part count from to word is
@@ -107,7 +107,22 @@ differs a b span bytes part count from to word same reads knows behind within is
         ∙ (ap (λ (bs : List ℕ). drop (8 * count) bs) told ∙ drop_at (take (8 * count) bytes) part (8 * count) long)))
 
 -- all words are those of the list
-pub same_all : (m : MemSeen) (span : Span) (bytes : List ℕ) (count : ℕ) → AreSame m span bytes count → count ≡ parts_for 8 span.len → length bytes ≡ span.len
+pub same_all : (m : MemSeen) (span : Span) (bytes : List ℕ) (count : ℕ) → EqualSoFar m span bytes count → count ≡ parts_for 8 span.len → length bytes ≡ span.len
     → (words : List ℕ) → FitsNotes m words → IsTrue true ↔ (bytes_in words span ≡ bytes)
 same_all m span bytes count same all len_is words fits =
     (λ _. ap (λ (n : ℕ). bytes_from words span.at span.len n) (sym all) ∙ (same words fits ∙ take_all (8 * count) bytes (omega arith)), λ _. refl)
+
+-- the rest of a list behind its whole words
+rest_part : (span : Span) (bytes : List ℕ) → length bytes ≡ span.len → 0 < span.len % 8 → IsPart span bytes (span.len / 8) (8 * (span.len / 8)) (length bytes) (slice_range bytes (8 * (span.len / 8)) (length bytes))
+rest_part span bytes len_is some = record { len_is = len_is; below = omega arith; from_is = refl; to_is = omega (arith, len_is); part_is = refl }
+
+-- it decides, where all whole words are those of the list
+pub decides_same : (a b : MemSeen) (span : Span) (bytes : List ℕ) (count word : ℕ) (result : Bool) → EqualSoFar a span bytes count → count ≡ span.len / 8 → 0 < span.len % 8 → length bytes ≡ span.len → Reads a b → Knows b (span.at + span.len / 8) word
+    → 1 < span.at → span.at + parts_for 8 span.len ≤ words_in_segment b.setting.geo → IsTrue result ↔ (take (length (slice_range bytes (8 * (span.len / 8)) (length bytes))) (to_le_bytes w64 word) ≡ slice_range bytes (8 * (span.len / 8)) (length bytes))
+    → (words : List ℕ) → FitsNotes b words → IsTrue result ↔ (bytes_in words span ≡ bytes)
+decides_same a b span bytes count word true same whole some len_is reads knows inner within begins =
+    same_all b span bytes (span.len / 8 + 1)
+    (same_more a b span bytes (slice_range bytes (8 * (span.len / 8)) (length bytes)) (span.len / 8) (8 * (span.len / 8)) (length bytes) word (subst (λ (n : ℕ). EqualSoFar a span bytes n) whole same) reads knows inner within (rest_part span bytes len_is some) (begins.0 refl))
+    (omega arith) len_is
+decides_same a b span bytes count word false same whole some len_is reads knows inner within begins =
+    differs a b span bytes (slice_range bytes (8 * (span.len / 8)) (length bytes)) (span.len / 8) (8 * (span.len / 8)) (length bytes) word (subst (λ (n : ℕ). EqualSoFar a span bytes n) whole same) reads knows inner within (rest_part span bytes len_is some) (λ e. never (begins.1 e))
