@@ -32,7 +32,7 @@ read_at geo words place chunk pair e =
     is_read geo chunk (word_at words (chunk_at geo place chunk)) (word_at words (chunk_at geo place chunk + 1))
     (key_bytes geo words place chunk (word_at words (chunk_at geo place chunk))) (value_bytes geo words place chunk (word_at words (chunk_at geo place chunk))) pair e
 
--- what is told of the words is the front of their bytes
+-- the bytes of a span are the first ones of its words
 span_is : (words : List ℕ) (at len : ℕ) → bytes_from words at len (parts_for 8 len) ≡ take len (bytes_of (take (parts_for 8 len) (drop at words)))
 unfolding bytes_from
 span_is words at len = refl

@@ -195,8 +195,8 @@ may_value_words m at from key value e may =
 
 pub prefix_value_words : (a b : MemSeen) (at from : ℕ) (key value : List ℕ) → from ≡ at + 2 + parts_for 8 (length key) → WritesPrefix a b (stores_from from (words_of value)) → WritesPrefix a b (value_stores at key value)
 unfolding value_stores
-prefix_value_words a b at from key value e front =
-    prefix_first a b (stores_from (at + 2 + parts_for 8 (length key)) (words_of value)) (store_at (at + 1) (entry_checksum key value) ∷ []) (subst (λ (n : ℕ). WritesPrefix a b (stores_from n (words_of value))) e front)
+prefix_value_words a b at from key value e prefix =
+    prefix_first a b (stores_from (at + 2 + parts_for 8 (length key)) (words_of value)) (store_at (at + 1) (entry_checksum key value) ∷ []) (subst (λ (n : ℕ). WritesPrefix a b (stores_from n (words_of value))) e prefix)
 
 -- and the checksum behind them
 pub may_checksum : (a b : MemSeen) (at from stored_checksum : ℕ) (key value : List ℕ) → from ≡ at + 2 + parts_for 8 (length key) → stored_checksum ≡ entry_checksum key value
@@ -243,25 +243,25 @@ may_value a b c at head key value e may first writes = may_suffix b c (stores_fr
 -- the first word was stored, and some of the others
 prefix_entry : (a b c : MemSeen) (at head : ℕ) (key value : List ℕ) → head ≡ head_of key value → Writes a b (store_at at head ∷ []) → WritesPrefix b c (behind_head at key value) → WritesPrefix a c (entry_stores at key value)
 unfolding entry_stores
-prefix_entry a b c at head key value e first front = prefix_then a b c (store_at at (head_of key value) ∷ []) (behind_head at key value) (subst (λ (n : ℕ). Writes a b (store_at at n ∷ [])) e first) front
+prefix_entry a b c at head key value e first prefix = prefix_then a b c (store_at at (head_of key value) ∷ []) (behind_head at key value) (subst (λ (n : ℕ). Writes a b (store_at at n ∷ [])) e first) prefix
 
 pub prefix_key_words : (a b c : MemSeen) (at head : ℕ) (key value : List ℕ) → head ≡ head_of key value → Writes a b (store_at at head ∷ []) → WritesPrefix b c (stores_from (at + 2) (words_of key)) → WritesPrefix a c (entry_stores at key value)
-prefix_key_words a b c at head key value e first front = prefix_entry a b c at head key value e first (prefix_first b c (stores_from (at + 2) (words_of key)) (value_stores at key value) front)
+prefix_key_words a b c at head key value e first prefix = prefix_entry a b c at head key value e first (prefix_first b c (stores_from (at + 2) (words_of key)) (value_stores at key value) prefix)
 
 -- the first word and the key's words are stored
-same_front : (at head : ℕ) (key value : List ℕ) → head ≡ head_of key value → entry_stores at key value ≡ (store_at at head ∷ stores_from (at + 2) (words_of key)) ++ value_stores at key value
+entry_stores_join : (at head : ℕ) (key value : List ℕ) → head ≡ head_of key value → entry_stores at key value ≡ (store_at at head ∷ stores_from (at + 2) (words_of key)) ++ value_stores at key value
 unfolding entry_stores
-same_front at head key value e = rw e refl
+entry_stores_join at head key value e = rw e refl
 
 -- and some of a value's words behind them
 pub prefix_after_key : (a b c : MemSeen) (at head : ℕ) (key value : List ℕ) → head ≡ head_of key value → Writes a b (store_at at head ∷ stores_from (at + 2) (words_of key)) → WritesPrefix b c (value_stores at key value) → WritesPrefix a c (entry_stores at key value)
-prefix_after_key a b c at head key value e first front =
-    subst (λ (stores : List WordStore). WritesPrefix a c stores) (sym (same_front at head key value e)) (prefix_then a b c (store_at at head ∷ stores_from (at + 2) (words_of key)) (value_stores at key value) first front)
+prefix_after_key a b c at head key value e first prefix =
+    subst (λ (stores : List WordStore). WritesPrefix a c stores) (sym (entry_stores_join at head key value e)) (prefix_then a b c (store_at at head ∷ stores_from (at + 2) (words_of key)) (value_stores at key value) first prefix)
 
 -- and all of them
 pub writes_joined : (a b c : MemSeen) (at head : ℕ) (key value : List ℕ) → head ≡ head_of key value → Writes a b (store_at at head ∷ stores_from (at + 2) (words_of key)) → Writes b c (value_stores at key value) → Writes a c (entry_stores at key value)
 writes_joined a b c at head key value e first last =
-    subst (λ (stores : List WordStore). Writes a c stores) (sym (same_front at head key value e)) (writes_append a b c (store_at at head ∷ stores_from (at + 2) (words_of key)) (value_stores at key value) first last)
+    subst (λ (stores : List WordStore). Writes a c stores) (sym (entry_stores_join at head key value e)) (writes_append a b c (store_at at head ∷ stores_from (at + 2) (words_of key)) (value_stores at key value) first last)
 
 -- ---- the parts of the stores of another value
 
@@ -276,5 +276,5 @@ may_value_each a b at head key value e may heads =
 
 pub prefix_replaced : (a b c : MemSeen) (at head : ℕ) (key value : List ℕ) → head ≡ head_of key value → WritesEach a b (head_stores at head) → WritesPrefix b c (value_stores at key value) → WritesPrefixEach a c (replacing_stores at key value)
 unfolding replacing_stores
-prefix_replaced a b c at head key value e heads front =
-    prefix_each_then a b c (head_stores at (head_of key value)) (value_stores at key value) (subst (λ (n : ℕ). WritesEach a b (head_stores at n)) e heads) front
+prefix_replaced a b c at head key value e heads prefix =
+    prefix_each_then a b c (head_stores at (head_of key value)) (value_stores at key value) (subst (λ (n : ℕ). WritesEach a b (head_stores at n)) e heads) prefix

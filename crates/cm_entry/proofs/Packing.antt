@@ -43,7 +43,7 @@ take_small (suc n) (byte ∷ bytes) small (suc i) = take_small n bytes (λ k. sm
 padded_len : (bytes : List ℕ) → length bytes ≤ 8 → length (padded_word bytes) ≡ 8
 padded_len bytes within_limit = length-append bytes (replicate (8 - length bytes) 0) ∙ (ap (λ (n : ℕ). length bytes + n) (length-replicate (8 - length bytes) 0) ∙ omega arith)
 
--- the bytes of a word are those that it was packed from, filled with zeros
+-- the bytes of a word are those that it was packed from, with zeros behind them
 pub bytes_of_word : (bytes : List ℕ) → length bytes ≤ 8 → AreBytes bytes → to_le_bytes w64 (word_of bytes) ≡ padded_word bytes
 unfolding word_of
 bytes_of_word bytes within_limit small = le_bytes_8 (padded_word bytes) (from_le_bytes w64 (padded_word bytes)) (padded_len bytes within_limit) (then_zeros bytes (8 - length bytes) small) refl
@@ -65,15 +65,15 @@ words_shift bytes n = fill_by_all (λ k. word_of (part_of (drop 8 bytes) k)) (ma
     twice_eight : (k : ℕ) → 8 * (1 + k) ≡ 8 + 8 * k
     twice_eight k = omega arith
 
--- bytes that are filled: the first eight, and then the others filled
+-- bytes with their padding: the first eight, and then the others with theirs
 padded_first : (bytes : List ℕ) → 0 < length bytes → padded bytes ≡ padded_word (take 8 bytes) ++ padded (drop 8 bytes)
 padded_first bytes nonzero = ⊎_elim (within_limit bytes nonzero) (long bytes) (cases_lt (length bytes) 8)
   where
     zeros_same : (m n : ℕ) → m ≡ n → ◌≡◌ {A = List ℕ} (replicate m 0) (replicate n 0)
     zeros_same m n e = ap (λ (k : ℕ). replicate k 0) e
 
-    none_filled : padded [] ≡ []
-    none_filled = refl
+    none_padded : padded [] ≡ []
+    none_padded = refl
 
     append_none : (xs : List ℕ) → xs ++ [] ≡ xs
     append_none [] = refl
@@ -86,12 +86,12 @@ padded_first bytes nonzero = ⊎_elim (within_limit bytes nonzero) (long bytes) 
 
     long : (bytes : List ℕ) → 8 ≤ length bytes → padded bytes ≡ padded_word (take 8 bytes) ++ padded (drop 8 bytes)
     long bytes enough =
-        let front : padded_word (take 8 bytes) ≡ take 8 bytes = ap (λ (zeros : List ℕ). take 8 bytes ++ zeros) (zeros_same (8 - length (take 8 bytes)) 0 (let l = length-take-le 8 bytes enough in omega (arith, l))) ∙ append_none (take 8 bytes) in
+        let first : padded_word (take 8 bytes) ≡ take 8 bytes = ap (λ (zeros : List ℕ). take 8 bytes ++ zeros) (zeros_same (8 - length (take 8 bytes)) 0 (let l = length-take-le 8 bytes enough in omega (arith, l))) ∙ append_none (take 8 bytes) in
         let rest : length (drop 8 bytes) ≡ length bytes - 8 = length-drop 8 bytes in
         let zeros : ◌≡◌ {A = List ℕ} (replicate (8 * parts_for 8 (length bytes) - length bytes) 0) (replicate (8 * parts_for 8 (length (drop 8 bytes)) - length (drop 8 bytes)) 0) = zeros_same _ _ (omega (arith, rest)) in
         ap (λ (zs : List ℕ). bytes ++ zs) zeros
         ∙ (ap (λ (bs : List ℕ). bs ++ replicate (8 * parts_for 8 (length (drop 8 bytes)) - length (drop 8 bytes)) 0) (sym (take-append-drop 8 bytes))
-        ∙ (append_assoc (take 8 bytes) (drop 8 bytes) _ ∙ ap (λ (bs : List ℕ). bs ++ padded (drop 8 bytes)) (sym front)))
+        ∙ (append_assoc (take 8 bytes) (drop 8 bytes) _ ∙ ap (λ (bs : List ℕ). bs ++ padded (drop 8 bytes)) (sym first)))
 
 bytes_of_map : (n : ℕ) (bytes : List ℕ) → parts_for 8 (length bytes) ≡ n → AreBytes bytes → bytes_of (map (λ k. word_of (part_of bytes k)) (range_with_len 0 n)) ≡ padded bytes
 bytes_of_map zero [] e small = refl

@@ -161,7 +161,7 @@ prefix_or_all last (m ∷ made) left (s ∷ stores) e =
   where
     step : m ≡ s → (made ≡ stores ++ last ∷ []) ⊎ ((more : List WordStore) × (made ++ more ≡ stores)) → (m ∷ made ≡ s ∷ stores ++ last ∷ []) ⊎ ((more : List WordStore) × (m ∷ made ++ more ≡ s ∷ stores))
     step head (inl all) = inl (rw (head, all) refl)
-    step head (inr front) = inr (front.0, rw (head, front.1) refl)
+    step head (inr prefix) = inr (prefix.0, rw (head, prefix.1) refl)
 
 prefix_each : (words : List ℕ) (at : ℕ) (key value : List ℕ) (made more : List WordStore) → made ++ more ≡ head_stores at (head_of key value) words ++ stores_from (at + 2 + parts_for 8 (length key)) (words_of value)
     → Each (IsBehindKey at (parts_for 8 (length key)) (head_of key value)) made
@@ -185,7 +185,7 @@ value_between geo words place chunk key old value made left small room length_is
     = sym (append_assoc (head_stores at (head_of key value) words) (stores_from (at + 2 + parts_for 8 (length key)) (words_of value)) (store_at (at + 1) (entry_checksum key value) ∷ [])) in
     elim (prefix_or_all (store_at (at + 1) (entry_checksum key value)) made left first (parts ∙ last_is)) [
       | inl all ↦ whole (subst (λ (ss : List WordStore). EntryWords (after_stores words ss) at key value) (sym (all ∙ sym last_is)) (value_replaced geo words place chunk key value small room length_is (old, has)))
-      | inr front ↦ midway (prefix_each words at key value made front.0 front.1)
+      | inr prefix ↦ midway (prefix_each words at key value made prefix.0 prefix.1)
     ]
   where
     nothing : (n : ℕ) → n + 0 ≡ n

@@ -32,12 +32,12 @@ copied_more a b span out part word_bytes count to word copied reads knows behind
     let part_word : part ≡ take (to - 8 * count) (to_le_bytes w64 word) = part_is ∙ ap (λ (bs : List ℕ). take (to - 8 * count) bs) bytes_are in
     let eight : length (to_le_bytes w64 word) ≡ 8 = refl in
     let part_len : length part ≡ to - 8 * count = ap (λ (bs : List ℕ). length bs) part_word ∙ length-take-le (to - 8 * count) (to_le_bytes w64 word) (omega (arith, eight, taken)) in
-    let told_part : part ≡ take (span.len - 8 * count) (to_le_bytes w64 (get_or words (span.at + count) 0)) =
+    let word_part : part ≡ take (span.len - 8 * count) (to_le_bytes w64 (get_or words (span.at + count) 0)) =
     part_word ∙ (ap (λ (n : ℕ). take n (to_le_bytes w64 word)) taken ∙ (first_eight word (span.len - 8 * count) ∙ ap (λ (w : ℕ). take (span.len - 8 * count) (to_le_bytes w64 w)) (sym here))) in
     take-put_mid (8 * count) (to - 8 * count) out part (min (8 * (count + 1)) span.len) (omega (arith, part_len, to_is)) (omega arith)
     ∙ (ap (λ (n : ℕ). take n out ++ part) (let h : 8 * count ≡ min (8 * count) span.len = omega arith in h)
     ∙ (ap (λ (bs : List ℕ). bs ++ part) (copied words (reads.fits words fits))
-    ∙ (ap (λ (bs : List ℕ). bytes_from words span.at span.len count ++ bs) told_part
+    ∙ (ap (λ (bs : List ℕ). bytes_from words span.at span.len count ++ bs) word_part
     ∙ sym (span_more words span.at span.len count inside (omega arith)))))
 
 -- one whole word more

@@ -96,7 +96,7 @@ differs a b span bytes part count from to word same reads knows behind within is
         let here = known_word b (span.at + count) (span.at + count) word (omega arith) refl knows words fits in
         let inside : span.at + count < length words = omega (arith, fits.are.length_is) in
         let long : length (take (8 * count) bytes) ≡ 8 * count = length-take-le (8 * count) bytes (omega (arith, part_begins span.len count below)) in
-        let told : take (8 * count) bytes ++ take (span.len - 8 * count) (to_le_bytes w64 (get_or words (span.at + count) 0)) ≡ take (8 * count) bytes ++ part =
+        let joined : take (8 * count) bytes ++ take (span.len - 8 * count) (to_le_bytes w64 (get_or words (span.at + count) 0)) ≡ take (8 * count) bytes ++ part =
         ap (λ (bs : List ℕ). bs ++ take (span.len - 8 * count) (to_le_bytes w64 (get_or words (span.at + count) 0))) (sym (same words (reads.fits words fits)))
         ∙ (sym (span_more words span.at span.len count inside (omega (arith, part_begins span.len count below)))
         ∙ (prefix_bytes words span.at span.len (count + 1) (parts_for 8 span.len) (omega arith)
@@ -104,7 +104,7 @@ differs a b span bytes part count from to word same reads knows behind within is
         word_part span bytes part count from to word is
         ∙ (ap (λ (w : ℕ). take (span.len - 8 * count) (to_le_bytes w64 w)) (sym here)
         ∙ (sym (drop_at (take (8 * count) bytes) (take (span.len - 8 * count) (to_le_bytes w64 (get_or words (span.at + count) 0))) (8 * count) long)
-        ∙ (ap (λ (bs : List ℕ). drop (8 * count) bs) told ∙ drop_at (take (8 * count) bytes) part (8 * count) long)))
+        ∙ (ap (λ (bs : List ℕ). drop (8 * count) bs) joined ∙ drop_at (take (8 * count) bytes) part (8 * count) long)))
 
 -- all words are those of the list
 pub same_all : (m : MemSeen) (span : Span) (bytes : List ℕ) (count : ℕ) → EqualSoFar m span bytes count → count ≡ parts_for 8 span.len → length bytes ≡ span.len

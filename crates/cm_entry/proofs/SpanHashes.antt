@@ -142,7 +142,7 @@ part_padded words at len last within last_is = elim (cases_eq (len % 8) 0) [
       (ap (λ (w : ℕ). take before (drop at words) ++ w ∷ []) here ∙ (sym (stretch_more words at before (omega arith)) ∙ ap (λ (n : ℕ). take n (drop at words)) (sym parts)))))
 ]
 
--- the part of a sum
+-- the hash over whole words
 pub words_hash : (words : List ℕ) (at len parts start : ℕ) (hash : SpanHash) (padded : Bool) → parts ≡ parts_for 8 len → at + parts_for 8 len ≤ length words → IsSpanHash words (record { at = at; len = 8 * parts }) start hash
     → padded ≡ is_last_padded len hash.last → IsWordsHash words at len start (record { state = hash.state; padded = padded })
 words_hash words at len parts start hash padded parts_are within given padded_is =

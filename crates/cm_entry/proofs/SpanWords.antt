@@ -67,7 +67,7 @@ span_len_part words at len count within within_limit =
     let long : length (bytes_of (take count (drop at words))) ≡ 8 * count = bytes_len (take count (drop at words)) ∙ ap (λ (n : ℕ). 8 * n) (stretch_len words at count within) in
     ap (λ (bs : List ℕ). length bs) (take_all len (bytes_of (take count (drop at words))) (omega (arith, long))) ∙ long
 
--- as many bytes as are told
+-- as many bytes as the length
 pub span_len : (words : List ℕ) (at len count : ℕ) → at + count ≤ length words → len ≤ 8 * count → length (bytes_from words at len count) ≡ len
 unfolding bytes_from
 span_len words at len count within within_limit =
@@ -104,7 +104,7 @@ both_prefixes a b xs = elim (cases_le a b) [
       | inr more ↦ omega (arith, ap (λ (zs : List ℕ). length zs) (take_all n ys (omega arith)))
     ]
 
--- what fewer words tell are the first bytes of what more tell
+-- the bytes of fewer words are the first ones of those of more
 pub prefix_bytes : (words : List ℕ) (at len count all : ℕ) → count ≤ all → bytes_from words at len count ≡ take (8 * count) (bytes_from words at len all)
 unfolding bytes_from
 prefix_bytes words at len count all within_limit =

@@ -66,12 +66,12 @@ reading_entry geo chunk key value head stored_checksum key_words value_words fit
     let k : key_len head ≡ length key = ap key_len head_is ∙ key_len_is (length key) (length value) fits.key_short in
     let v : value_len head ≡ length value = ap value_len head_is ∙ value_len_is (length key) (length value) fits.key_short in
     let lengths : lengths_fit geo chunk head ≡ true = lengths_are geo chunk (length key) (length value) fits run head k v in
-    let summed : (checksum head key_words value_words == stored_checksum) ≡ true = rw (head_is, checksum_is, key_is, value_is) (same_eqb (checksum (head_of key value) (padded key) (padded value))) in
-    let key_full : is_padded (key_len head) key_words ≡ true = rw (k, key_is) (padded_all key) in
-    let value_full : is_padded (value_len head) value_words ≡ true = rw (v, value_is) (padded_all value) in
+    let checksum_same : (checksum head key_words value_words == stored_checksum) ≡ true = rw (head_is, checksum_is, key_is, value_is) (same_eqb (checksum (head_of key value) (padded key) (padded value))) in
+    let key_padded : is_padded (key_len head) key_words ≡ true = rw (k, key_is) (padded_all key) in
+    let value_padded : is_padded (value_len head) value_words ≡ true = rw (v, value_is) (padded_all value) in
     let key_prefix : take (key_len head) key_words ≡ key = rw (k, key_is) (padded_prefix key) in
     let value_prefix : take (value_len head) value_words ≡ value = rw (v, value_is) (padded_prefix value) in
-    rw (lengths, summed, key_full, value_full, key_prefix, value_prefix) refl
+    rw (lengths, checksum_same, key_padded, value_padded, key_prefix, value_prefix) refl
 
 -- the words of an entry stand from an address on
 pub record EntryWords (words : List ℕ) (at : ℕ) (key value : List ℕ) : Type 0 where
@@ -192,17 +192,17 @@ stood geo words place chunk key value length_is low has =
     let value_room : pv ≤ length (drop (at + 2 + pk) words) = value_by at pk pv (words_in_segment geo) (length words) (length (drop (at + 2 + pk) words)) length_is (length-drop (at + 2 + pk) words) room in
     let key_size : length key_is ≡ 8 * pk = bytes_len (take pk (drop (at + 2 + 0) words)) ∙ ap (λ (n : ℕ). 8 * n) (length-take-le pk (drop (at + 2 + 0) words) key_room) in
     let value_size : length value_is ≡ 8 * pv = bytes_len (take pv (drop (at + 2 + pk) words)) ∙ ap (λ (n : ℕ). 8 * n) (length-take-le pv (drop (at + 2 + pk) words) value_room) in
-    let key_full : key_is ≡ padded key = padded_is (key_len head) key_is key_size read.key_padded ∙ ap padded (sym read.key_is) in
-    let value_full : value_is ≡ padded value = padded_is (value_len head) value_is value_size read.value_padded ∙ ap padded (sym read.value_is) in
+    let key_padded : key_is ≡ padded key = padded_is (key_len head) key_is key_size read.key_padded ∙ ap padded (sym read.key_is) in
+    let value_padded : value_is ≡ padded value = padded_is (value_len head) value_is value_size read.value_padded ∙ ap padded (sym read.value_is) in
     let key_length : length key ≡ key_len head = ap (λ (l : List ℕ). length l) read.key_is ∙ length-take-le (key_len head) key_is (whole_words (key_len head) (length key_is) key_size) in
     let value_length : length value ≡ value_len head = ap (λ (l : List ℕ). length l) read.value_is ∙ length-take-le (value_len head) value_is (whole_words (value_len head) (length value_is) value_size) in
     let head_is : head ≡ head_of key value = halves head (length key) (length value) key_length value_length in
     record {
       head = head_is;
-      stored_checksum = sym read.sum_is ∙ same_sum head (head_of key value) key_is (padded key) value_is (padded value) head_is key_full value_full;
-      key_words = ap (λ (n : ℕ). bytes_of (take (parts_for 8 n) (drop (at + 2) words))) key_length ∙ (ap (λ (a : ℕ). bytes_of (take pk (drop a words))) (nothing (at + 2)) ∙ key_full);
+      stored_checksum = sym read.sum_is ∙ same_sum head (head_of key value) key_is (padded key) value_is (padded value) head_is key_padded value_padded;
+      key_words = ap (λ (n : ℕ). bytes_of (take (parts_for 8 n) (drop (at + 2) words))) key_length ∙ (ap (λ (a : ℕ). bytes_of (take pk (drop a words))) (nothing (at + 2)) ∙ key_padded);
       value_words = ap (λ (n : ℕ). bytes_of (take (parts_for 8 (length value)) (drop (at + 2 + parts_for 8 n) words))) key_length
-          ∙ (ap (λ (n : ℕ). bytes_of (take (parts_for 8 n) (drop (at + 2 + pk) words))) value_length ∙ value_full);
+          ∙ (ap (λ (n : ℕ). bytes_of (take (parts_for 8 n) (drop (at + 2 + pk) words))) value_length ∙ value_padded);
     }
   where
     nothing : (n : ℕ) → n ≡ n + 0

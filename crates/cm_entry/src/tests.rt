@@ -15,8 +15,7 @@ const CHUNKS: u32 = 137;
 const LAST_CHUNK: u32 = CHUNKS + 8 * 63;
 
 // Sets a word of the map.
-fn put(words: &mut Words, at: u32, word: u64)
-{
+fn put(words: &mut Words, at: u32, word: u64) {
     if at < words.geo().total_words() {
         words.set(at, word);
     }
@@ -161,14 +160,8 @@ fn a_small_entry_is_read(rt: HostRuntime) -> Result<(), Fail> {
     assert_eq!(rt; lengths_at(&words, 63), Some((9, 6)));
     assert_eq!(rt; hash_at(&words, 63), Some(0x5b7a_10a3_87fc_ef36));
     assert_eq!(rt; key_at(&words, 63, b"short key"), Some((true, true)));
-    assert_eq!(rt;
-        key_at(&words, 63, b"short kez"),
-        Some((false, false))
-    );
-    assert_eq!(rt;
-        key_at(&words, 63, b"short ke"),
-        Some((false, false))
-    );
+    assert_eq!(rt; key_at(&words, 63, b"short kez"), Some((false, false)));
+    assert_eq!(rt; key_at(&words, 63, b"short ke"), Some((false, false)));
     assert_eq!(rt; value_at(&words, 63, b"value!"), Some((true, true)));
     assert_eq!(rt; value_at(&words, 63, b"Value!"), Some((false, false)));
     Ok(())

@@ -1,6 +1,5 @@
 use Rattle.std.proofs.Common.{arith, sym, ◌∙◌}
 use Rattle.cm_geo.proofs.AddressOrder.{segment_limit}
-
 use Rattle.cm_entry.proofs.SpanHashes.{readable_after, words_long}
 use Rattle.cm_entry.proofs.LoadCounts.{no_answer, once_as, once_err_as}
 use Rattle.cm_entry.proofs.EntryAt.{key_stands}
@@ -25,8 +24,8 @@ returns g c = record {
     readable = readable_after (g.M.Mem.seen c.args.mem.now) (g.M.Mem.seen c.lengths.new.mem) c.args.geo.now c.span_at.result c.requires.readable c.in_ok-key_len.ensures.loads.call.done c.span_at.ensures.inside;
     within_limit = c.span_at.ensures.within_limit;
     stands = λ words fits pair stands.
-          key_stands c.args.geo.now words c.args.place c.args.chunk c.chunk_at.result c.in_ok-key_len.key_len c.in_ok-key_len.field-0-1 c.span_at.result pair c.requires.place_low
-          (words_long (g.M.Mem.seen c.args.mem.now) (g.M.Mem.seen c.lengths.new.mem) c.args.geo.now c.in_ok-key_len.ensures.loads.call.done c.requires.readable.geo_is words fits)
-          (c.in_ok-key_len.ensures.lengths words fits).halves stands c.chunk_at.ensures.value c.span_at.ensures.whole;
+        key_stands c.args.geo.now words c.args.place c.args.chunk c.chunk_at.result c.in_ok-key_len.key_len c.in_ok-key_len.field-0-1 c.span_at.result pair c.requires.place_low
+        (words_long (g.M.Mem.seen c.args.mem.now) (g.M.Mem.seen c.lengths.new.mem) c.args.geo.now c.in_ok-key_len.ensures.loads.call.done c.requires.readable.geo_is words fits)
+        (c.in_ok-key_len.ensures.lengths words fits).halves stands c.chunk_at.ensures.value c.span_at.ensures.whole;
   };
 }

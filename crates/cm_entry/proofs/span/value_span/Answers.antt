@@ -28,8 +28,8 @@ returns g c = record {
     readable = readable_after (g.M.Mem.seen c.args.mem.now) (g.M.Mem.seen c.lengths.new.mem) c.args.geo.now c.span_at.result c.requires.readable c.in_ok-key_len.ensures.loads.call.done c.span_at.ensures.inside;
     within_limit = c.span_at.ensures.within_limit;
     stands = λ words fits pair stands.
-          value_stands c.args.geo.now words c.args.place c.args.chunk c.chunk_at.result c.div_ceil.result c.in_ok-key_len.key_len c.in_ok-key_len.value_len c.span_at.result pair c.requires.place_low
-          (words_long (g.M.Mem.seen c.args.mem.now) (g.M.Mem.seen c.lengths.new.mem) c.args.geo.now c.in_ok-key_len.ensures.loads.call.done c.requires.readable.geo_is words fits)
-          (c.in_ok-key_len.ensures.lengths words fits).halves stands c.chunk_at.ensures.value (parts_are c.in_ok-key_len.key_len _ c.div_ceil.ensures) c.span_at.ensures.whole;
+        value_stands c.args.geo.now words c.args.place c.args.chunk c.chunk_at.result c.div_ceil.result c.in_ok-key_len.key_len c.in_ok-key_len.value_len c.span_at.result pair c.requires.place_low
+        (words_long (g.M.Mem.seen c.args.mem.now) (g.M.Mem.seen c.lengths.new.mem) c.args.geo.now c.in_ok-key_len.ensures.loads.call.done c.requires.readable.geo_is words fits)
+        (c.in_ok-key_len.ensures.lengths words fits).halves stands c.chunk_at.ensures.value (parts_are c.in_ok-key_len.key_len _ c.div_ceil.ensures) c.span_at.ensures.whole;
   };
 }

@@ -23,7 +23,7 @@ store_bytes-requires-clause-allowed g c = may_value_words (g.M.Mem.seen c.args.m
 pub returns-in_err-checksum : goal.returns-in_err-checksum
 returns-in_err-checksum g c =
     ends_err g.M.Mem.seen g.M.Mem.same_rest (λ old now. Writes old now (stores_from (c.args.at + 2 + c.words_for.result) (words_of c.args.value.now))) (λ old now. WritesPrefix old now (stores_from (c.args.at + 2 + c.words_for.result) (words_of c.args.value.now))) (λ old now. Writes old now (value_stores c.args.at c.args.key.now c.args.value.now)) (λ old now. WritesPrefix old now (value_stores c.args.at c.args.key.now c.args.value.now)) _ c.store_bytes.new.mem _ c.from_residual.result c.from_residual.ensures.0 c.in_err-checksum.ensures.stores
-    (λ front. prefix_value_words (g.M.Mem.seen c.args.mem.now) (g.M.Mem.seen c.store_bytes.new.mem) c.args.at (c.args.at + 2 + c.words_for.result) c.args.key.now c.args.value.now (ap (λ (n : ℕ). c.args.at + 2 + n) c.words_for.ensures) front)
+    (λ prefix. prefix_value_words (g.M.Mem.seen c.args.mem.now) (g.M.Mem.seen c.store_bytes.new.mem) c.args.at (c.args.at + 2 + c.words_for.result) c.args.key.now c.args.value.now (ap (λ (n : ℕ). c.args.at + 2 + n) c.words_for.ensures) prefix)
 
 pub overflow_add-at-3 : goal.overflow_add-at-3
 overflow_add-at-3 g c = omega (arith, segment_limit (g.M.Mem.seen c.args.mem.now).setting.geo, c.requires.room.in_range)

@@ -36,8 +36,8 @@ store_bytes-requires-clause-allowed g c = may_key_words (g.M.Mem.seen c.args.mem
 pub returns-in_err-over_key-clause-stores : goal.returns-in_err-over_key-clause-stores
 returns-in_err-over_key-clause-stores g c =
     then_err g.M.Mem.seen g.M.Mem.same_rest (λ old now. Writes old now (store_at c.chunk_at-at.result c.head_of-head.result ∷ [])) (λ old now. Writes old now (stores_from (c.chunk_at-at.result + 2) (words_of c.args.key.now))) (λ old now. WritesPrefix old now (stores_from (c.chunk_at-at.result + 2) (words_of c.args.key.now))) (λ old now. Writes old now (entry_stores (chunk_at c.args.geo.now c.args.place c.args.chunk) c.args.key.now c.args.value.now)) (λ old now. WritesPrefix old now (entry_stores (chunk_at c.args.geo.now c.args.place c.args.chunk) c.args.key.now c.args.value.now)) _ c.store.new.self c.store_bytes.new.mem _ c.from_residual-in_err-over_key.result c.from_residual-in_err-over_key.ensures.0 (g.met.M.Mem.rest_transitive _ _ _) (done_by g.M.Mem.seen g.M.Mem.same_rest (λ old now. Writes old now (store_at c.chunk_at-at.result c.head_of-head.result ∷ [])) IsAsBefore _ _ _ c.in_ok-store.ensures.stores.call) c.in_err-over_key.ensures.stores
-    (λ first front. (subst (λ (n : ℕ). WritesPrefix (g.M.Mem.seen c.args.mem.now) (g.M.Mem.seen c.store_bytes.new.mem) (entry_stores n c.args.key.now c.args.value.now)) c.chunk_at-at.ensures.value
-    (prefix_key_words (g.M.Mem.seen c.args.mem.now) (g.M.Mem.seen c.store.new.self) (g.M.Mem.seen c.store_bytes.new.mem) c.chunk_at-at.result c.head_of-head.result c.args.key.now c.args.value.now c.head_of-head.ensures first front)))
+    (λ first prefix. (subst (λ (n : ℕ). WritesPrefix (g.M.Mem.seen c.args.mem.now) (g.M.Mem.seen c.store_bytes.new.mem) (entry_stores n c.args.key.now c.args.value.now)) c.chunk_at-at.ensures.value
+    (prefix_key_words (g.M.Mem.seen c.args.mem.now) (g.M.Mem.seen c.store.new.self) (g.M.Mem.seen c.store_bytes.new.mem) c.chunk_at-at.result c.head_of-head.result c.args.key.now c.args.value.now c.head_of-head.ensures first prefix)))
 
 pub store_value-requires-clause-room : goal.store_value-requires-clause-room
 store_value-requires-clause-room g c =
@@ -55,8 +55,8 @@ pub returns-in_err-store_value-clause-stores : goal.returns-in_err-store_value-c
 returns-in_err-store_value-clause-stores g c =
     then_err g.M.Mem.seen g.M.Mem.same_rest (λ old now. Writes old now (store_at c.chunk_at-at.result c.head_of-head.result ∷ stores_from (c.chunk_at-at.result + 2) (words_of c.args.key.now))) (λ old now. Writes old now (value_stores c.chunk_at-at.result c.args.key.now c.args.value.now)) (λ old now. WritesPrefix old now (value_stores c.chunk_at-at.result c.args.key.now c.args.value.now)) (λ old now. Writes old now (entry_stores (chunk_at c.args.geo.now c.args.place c.args.chunk) c.args.key.now c.args.value.now)) (λ old now. WritesPrefix old now (entry_stores (chunk_at c.args.geo.now c.args.place c.args.chunk) c.args.key.now c.args.value.now)) _ c.store_bytes.new.mem c.store_value.new.mem _ c.from_residual-in_err-store_value.result c.from_residual-in_err-store_value.ensures.0 (g.met.M.Mem.rest_transitive _ _ _)
     (done_then g.M.Mem.seen g.M.Mem.same_rest (λ old now. Writes old now (store_at c.chunk_at-at.result c.head_of-head.result ∷ [])) (λ old now. Writes old now (stores_from (c.chunk_at-at.result + 2) (words_of c.args.key.now))) (λ old now. Writes old now (store_at c.chunk_at-at.result c.head_of-head.result ∷ stores_from (c.chunk_at-at.result + 2) (words_of c.args.key.now))) _ c.store.new.self _ (g.met.M.Mem.rest_transitive _ _ _) (done_by g.M.Mem.seen g.M.Mem.same_rest (λ old now. Writes old now (store_at c.chunk_at-at.result c.head_of-head.result ∷ [])) IsAsBefore _ _ _ c.in_ok-store.ensures.stores.call) (done_by g.M.Mem.seen g.M.Mem.same_rest (λ old now. Writes old now (stores_from (c.chunk_at-at.result + 2) (words_of c.args.key.now))) (λ old now. WritesPrefix old now (stores_from (c.chunk_at-at.result + 2) (words_of c.args.key.now))) _ _ _ c.in_ok-over_key.ensures.stores) (λ first words. writes_append (g.M.Mem.seen c.args.mem.now) (g.M.Mem.seen c.store.new.self) (g.M.Mem.seen c.store_bytes.new.mem) (store_at c.chunk_at-at.result c.head_of-head.result ∷ []) (stores_from (c.chunk_at-at.result + 2) (words_of c.args.key.now)) first words)) c.in_err-store_value.ensures
-    (λ written front. (subst (λ (n : ℕ). WritesPrefix (g.M.Mem.seen c.args.mem.now) (g.M.Mem.seen c.store_value.new.mem) (entry_stores n c.args.key.now c.args.value.now)) c.chunk_at-at.ensures.value
-    (prefix_after_key (g.M.Mem.seen c.args.mem.now) (g.M.Mem.seen c.store_bytes.new.mem) (g.M.Mem.seen c.store_value.new.mem) c.chunk_at-at.result c.head_of-head.result c.args.key.now c.args.value.now c.head_of-head.ensures written front)))
+    (λ written prefix. (subst (λ (n : ℕ). WritesPrefix (g.M.Mem.seen c.args.mem.now) (g.M.Mem.seen c.store_value.new.mem) (entry_stores n c.args.key.now c.args.value.now)) c.chunk_at-at.ensures.value
+    (prefix_after_key (g.M.Mem.seen c.args.mem.now) (g.M.Mem.seen c.store_bytes.new.mem) (g.M.Mem.seen c.store_value.new.mem) c.chunk_at-at.result c.head_of-head.result c.args.key.now c.args.value.now c.head_of-head.ensures written prefix)))
 
 stored : goal.returns-clause-stores
 stored g c =

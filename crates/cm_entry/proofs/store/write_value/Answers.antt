@@ -32,8 +32,8 @@ store_value-requires-clause-allowed g c = may_value_each (g.M.Mem.seen c.args.me
 pub returns-in_err-store_value : goal.returns-in_err-store_value
 returns-in_err-store_value g c =
     then_err g.M.Mem.seen g.M.Mem.same_rest (λ old now. WritesEach old now (head_stores c.chunk_at-at.result c.head_of-head.result)) (λ old now. Writes old now (value_stores c.chunk_at-at.result c.args.key.now c.args.value.now)) (λ old now. WritesPrefix old now (value_stores c.chunk_at-at.result c.args.key.now c.args.value.now)) (λ old now. Replaces old now c.args.geo.now c.args.place c.args.chunk c.args.key.now c.args.value.now) (λ old now. WritesPrefixEach old now (replacing_stores (chunk_at c.args.geo.now c.args.place c.args.chunk) c.args.key.now c.args.value.now)) _ c.store_head.new.mem c.store_value.new.mem _ c.from_residual-in_err-store_value.result c.from_residual-in_err-store_value.ensures.0 (g.met.M.Mem.rest_transitive _ _ _) (done_by g.M.Mem.seen g.M.Mem.same_rest (λ old now. WritesEach old now (head_stores c.chunk_at-at.result c.head_of-head.result)) Reads _ _ _ c.in_ok-store_head.ensures) c.in_err-store_value.ensures
-    (λ heads front. subst (λ (n : ℕ). WritesPrefixEach (g.M.Mem.seen c.args.mem.now) (g.M.Mem.seen c.store_value.new.mem) (replacing_stores n c.args.key.now c.args.value.now)) c.chunk_at-at.ensures.value
-    (prefix_replaced (g.M.Mem.seen c.args.mem.now) (g.M.Mem.seen c.store_head.new.mem) (g.M.Mem.seen c.store_value.new.mem) c.chunk_at-at.result c.head_of-head.result c.args.key.now c.args.value.now c.head_of-head.ensures heads front))
+    (λ heads prefix. subst (λ (n : ℕ). WritesPrefixEach (g.M.Mem.seen c.args.mem.now) (g.M.Mem.seen c.store_value.new.mem) (replacing_stores n c.args.key.now c.args.value.now)) c.chunk_at-at.ensures.value
+    (prefix_replaced (g.M.Mem.seen c.args.mem.now) (g.M.Mem.seen c.store_head.new.mem) (g.M.Mem.seen c.store_value.new.mem) c.chunk_at-at.result c.head_of-head.result c.args.key.now c.args.value.now c.head_of-head.ensures heads prefix))
 
 pub returns : goal.returns
 returns g c =
