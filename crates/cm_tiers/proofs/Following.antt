@@ -7,7 +7,6 @@ use Rattle.cm_geo.specs.declared.geo.Geo.{Geo}
 use Rattle.cm_geo.specs.Addresses.{tier_at}
 use Rattle.cm_geo.proofs.Ranges.{tiers_range}
 use Rattle.cm_plain.specs.States.{IsChain}
-use Rattle.cm_plain.specs.Slots.{word_at}
 use Rattle.cm_plain.specs.FoundChains.{chain_of, chain_from}
 use Rattle.cm_plain.proofs.Chains.{IsOutside, chain_with, leads_outside, short_beside}
 use Rattle.cm_words.specs.Memory.{FitsNotes, MemSeen}

@@ -1,6 +1,7 @@
 //! Chains worked out by hand, and a link that is stopped at its only store.
 
-ghost use Rattle.std.specs.Prelude.{◌≡◌, ◌<◌, IfOk};
+ghost use Rattle.std.specs.Prelude.{◌≡◌, IfOk};
+ghost use Rattle.cm_geo.specs.Geometry.{IsGeoOf};
 
 use crate::{Chain, chain, link, lowest_unlinked, next};
 use cm_geo::Geo;
@@ -102,9 +103,8 @@ fn a_link_leads_to_a_place_or_to_none(rt: HostRuntime) -> Result<(), Fail> {
 // Links the sixth tier behind the third, where anything may be stored.
 #[tactic(auto, using(cm_words::proofs::StoreLists::may_store_free))]
 fn link_sixth<F: Fuse>(words: &mut Words, geo: &Geo, fuse: F) -> Result<(), Dead>
-    requires nonzero { 0 < words.old.geo.segments }
-    requires geo { words.old.geo ≡ geo.now }
-    requires tiers { 5 < geo.now.tiers }
+    requires same_geo { words.old.geo ≡ geo.now }
+    requires geo { IsGeoOf geo.now 1 8 64 4 0 }
     ensures { words.new.geo ≡ geo.now }
 {
     let mut mem = PlainMem::free(words, 0, fuse);
