@@ -13,7 +13,7 @@ use Rattle.cm_entry.specs.Spans.{bytes_from}
 cases_le : (a b : ℕ) → (a ≤ b) ⊎ (b ≤ a)
 cases_le a b = elim (cases_lt b a) [ inl less ↦ inr (omega arith) | inr more ↦ inl more ]
 
--- so many words from a place on
+-- so many words from an address on
 pub stretch_len : (words : List ℕ) (at count : ℕ) → at + count ≤ length words → length (take count (drop at words)) ≡ count
 stretch_len words at count within = length-take-le count (drop at words) (omega (arith, length-drop at words))
 
