@@ -7,7 +7,6 @@ use Rattle.std.proofs.lemmas.List.{drop-drop}
 use Rattle.cm_geo.specs.declared.geo.Geo.{Geo}
 use Rattle.cm_geo.specs.Hash.{hash, hash_byte}
 use Rattle.cm_plain.specs.declared.reply.Pair.{Pair}
-use Rattle.cm_plain.specs.Readings.{entry, reading_at}
 use Rattle.cm_words.specs.declared.fuse.Dead.{Dead}
 use Rattle.cm_words.specs.Memory.{FitsNotes, MemSeen}
 use Rattle.cm_words.specs.Effects.{Reads}

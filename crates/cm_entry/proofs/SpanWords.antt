@@ -13,7 +13,7 @@ use Rattle.cm_entry.specs.Spans.{bytes_from}
 cases_le : (a b : ℕ) → (a ≤ b) ⊎ (b ≤ a)
 cases_le a b = elim (cases_lt b a) [ inl less ↦ inr (omega arith) | inr more ↦ inl more ]
 
--- so many words from a place on
+-- so many words from an address on
 pub stretch_len : (words : List ℕ) (at count : ℕ) → at + count ≤ length words → length (take count (drop at words)) ≡ count
 stretch_len words at count within = length-take-le count (drop at words) (omega (arith, length-drop at words))
 
@@ -59,13 +59,6 @@ span_whole words at len count e = take_all len (bytes_of (take count (drop at wo
 
     within_limit : (ws : List ℕ) → length ws ≤ count → length (bytes_of ws) ≤ len
     within_limit ws few = omega (arith, bytes_len ws)
-
--- as many bytes as the words have, if there are more
-pub span_len_part : (words : List ℕ) (at len count : ℕ) → at + count ≤ length words → 8 * count ≤ len → length (bytes_from words at len count) ≡ 8 * count
-unfolding bytes_from
-span_len_part words at len count within within_limit =
-    let long : length (bytes_of (take count (drop at words))) ≡ 8 * count = bytes_len (take count (drop at words)) ∙ ap (λ (n : ℕ). 8 * n) (stretch_len words at count within) in
-    ap (λ (bs : List ℕ). length bs) (take_all len (bytes_of (take count (drop at words))) (omega (arith, long))) ∙ long
 
 -- as many bytes as the length
 pub span_len : (words : List ℕ) (at len count : ℕ) → at + count ≤ length words → len ≤ 8 * count → length (bytes_from words at len count) ≡ len

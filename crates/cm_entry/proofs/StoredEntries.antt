@@ -12,7 +12,7 @@ use Rattle.cm_geo.proofs.Ranges.{chunk_words_range}
 use Rattle.cm_plain.proofs.EntryWords.{words_within}
 use Rattle.cm_plain.specs.Readings.{HasEntry, bytes_at, bytes_of, checksum, entry, entry_checksum, head_of, is_padded, key_bytes, key_len, lengths_fit, padded, reading_at, reading_of, value_bytes, value_len}
 use Rattle.cm_plain.proofs.Padding.{IsRead, bytes_len, padded_is, is_read, whole_words}
-use Rattle.cm_words.specs.Stores.{WordStore, after_stores, store_at}
+use Rattle.cm_words.specs.Stores.{after_stores, store_at}
 use Rattle.cm_words.proofs.StoreLists.{after_stores_append}
 use Rattle.cm_entry.specs.Packing.{words_of}
 use Rattle.cm_entry.specs.EntryStores.{HasKey, HasRoom, entry_stores, head_stores, replacing_stores, stores_from, value_stores}

@@ -147,7 +147,7 @@ module _ (geo : Geo) (words : List ℕ) (place chunk head stored_checksum start 
   verdict_checksum other = by_reading Checksum (ends_other geo chunk head stored_checksum (key_bytes geo words place chunk head) (value_bytes geo words place chunk head) read.fit (λ same. other (checksum_read ∙ same)))
 
   pub verdict_padding : both.state ≡ stored_checksum → both.padded ≡ false → Padding ≡ verdict_of geo (reading_at geo words place chunk)
-  verdict_padding same unfilled = by_reading Padding (ends_unpadded geo chunk head stored_checksum (key_bytes geo words place chunk head) (value_bytes geo words place chunk head) read.fit (sym checksum_read ∙ same) (sym padding_read ∙ unfilled))
+  verdict_padding same unpadded = by_reading Padding (ends_unpadded geo chunk head stored_checksum (key_bytes geo words place chunk head) (value_bytes geo words place chunk head) read.fit (sym checksum_read ∙ same) (sym padding_read ∙ unpadded))
 
   pub verdict_good : (key value chunks : ℕ) → place < geo.tiers → length words ≡ words_in_segment geo → key ≡ key_len head → value ≡ value_len head → chunks ≡ need geo (key_len head) (value_len head)
       → both.state ≡ stored_checksum → both.padded ≡ true → Good key value chunks ≡ verdict_of geo (reading_at geo words place chunk)

@@ -1,4 +1,4 @@
-use Rattle.std.proofs.Common.{arith, sym, ◌∙◌}
+use Rattle.std.proofs.Common.{arith}
 use Rattle.cm_geo.proofs.AddressOrder.{segment_limit}
 use Rattle.cm_entry.proofs.SpanHashes.{readable_after, words_long}
 use Rattle.cm_entry.proofs.LoadCounts.{no_answer, once_as, once_err_as}

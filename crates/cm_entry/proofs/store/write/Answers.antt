@@ -1,4 +1,4 @@
-use Rattle.std.proofs.Common.{ℕ, ◌+◌, ◌++◌, arith, ap, sym, subst, ◌∙◌, [], ◌∷◌}
+use Rattle.std.proofs.Common.{ℕ, ◌+◌, arith, ap, sym, subst, ◌∙◌, [], ◌∷◌}
 use Rattle.cm_geo.specs.Addresses.{chunk_at}
 use Rattle.cm_geo.specs.Hash.{hash}
 use Rattle.cm_geo.proofs.AddressOrder.{segment_limit}
