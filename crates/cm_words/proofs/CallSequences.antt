@@ -1,5 +1,5 @@
 -- Calls over a memory, one after the other.
-use Rattle.std.proofs.Common.{◌≡◌, ℕ, [], ◌∷◌, Ok, Err, false, true, arith, subst}
+use Rattle.std.proofs.Common.{◌≡◌, ℕ, Ok, Err, false, true, arith, subst}
 use Rattle.std.specs.Prelude.{IsErr}
 use Rattle.std.specs.declared.result.Result.{Result}
 use Rattle.cm_words.specs.Memory.{MemSeen}

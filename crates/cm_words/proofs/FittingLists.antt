@@ -1,5 +1,5 @@
 -- Which lists fit the notes after a call, and where they came from.
-use Rattle.std.proofs.Common.{◌≡◌, ◌≢◌, ℕ, ◌+◌, ◌*◌, ◌/◌, ◌%◌, ◌<◌, ◌≤◌, ◌^◌, Some, None, Option, List, [], ◌∷◌, length, get_or, set, slice_set, arith, refl, ap, sym, ◌∙◌, subst, get_or-set_other, get_or-set_same, IsSome, true, false, length-set, ◌++◌, inl, inr, Ok, Err, OnErr}
+use Rattle.std.proofs.Common.{◌≡◌, ◌≢◌, ℕ, ◌+◌, ◌*◌, ◌/◌, ◌%◌, ◌<◌, ◌≤◌, ◌^◌, Some, None, Option, List, [], ◌∷◌, length, get_or, set, slice_set, arith, refl, ap, sym, ◌∙◌, subst, get_or-set_other, get_or-set_same, IsSome, true, false, length-set, inl, inr, Ok, Err, OnErr}
 use Rattle.std.specs.declared.result.Result.{Result}
 use Rattle.std.proofs.lemmas.Bool.{cases_eq}
 use Rattle.std.proofs.lemmas.List.{set-set, set-get_or}

@@ -1,7 +1,7 @@
 -- How lists came from lists over more than one call, whatever relates them.
-use Rattle.std.proofs.Common.{◌≡◌, ℕ, List, ◌∙◌}
+use Rattle.std.proofs.Common.{ℕ, List, ◌∙◌}
 use Rattle.cm_words.specs.Memory.{FitsNotes, MemSeen}
-use Rattle.cm_words.specs.Effects.{CameFrom, Changes, Reads}
+use Rattle.cm_words.specs.Effects.{Changes, Reads}
 use Rattle.cm_words.proofs.FittingLists.{keeps_transitive}
 
 -- loads alone leave each list as it was

@@ -1,9 +1,9 @@
 -- Stores, also those that depend on the words in which they are made: what they lead to, which are allowed, and which were made.
-use Rattle.std.proofs.Common.{◌≡◌, ℕ, ◌+◌, ◌<◌, List, [], ◌∷◌, ◌++◌, length, slice_set, Option, true, false, refl, sym, subst, ap, ◌∙◌, append_assoc, length-append, arith}
+use Rattle.std.proofs.Common.{◌≡◌, ℕ, ◌<◌, List, [], ◌∷◌, ◌++◌, slice_set, Option, true, false, refl, sym, subst, ap, ◌∙◌, append_assoc, length-append, arith}
 use Rattle.cm_plain.specs.Changes.{Change}
 use Rattle.cm_plain.specs.Slots.{word_at}
-use Rattle.cm_words.specs.Memory.{FitsNotes, IsAllowed, MayStore, MemSeen, Setting, origin}
-use Rattle.cm_words.specs.Effects.{Changes, Keeps, Knows, Reads}
+use Rattle.cm_words.specs.Memory.{IsAllowed, MayStore, MemSeen, Setting, origin}
+use Rattle.cm_words.specs.Effects.{Keeps, Knows, Reads}
 use Rattle.cm_words.specs.Stores.{AllowsAll, Leads, LeadsPrefix, MayStoreAll, MayStoreEach, WordStore, Writes, WritesEach, WritesPrefix, WritesPrefixEach, after_stores, store_at}
 use Rattle.cm_words.proofs.FittingLists.{reads_reflexive}
 use Rattle.cm_words.proofs.ListChanges.{changes_as, changes_none, changes_reads, changes_then, reads_changes}

@@ -1,5 +1,5 @@
 -- What a fuse tells, and how it answers for an event (own).
-use Rattle.std.specs.Prelude.{ℕ, ◌≡◌, ◌+◌, ◌<◌, Bool, IsTrue, Option, Some, None}
+use Rattle.std.specs.Prelude.{ℕ, ◌≡◌, ◌+◌, Bool, IsTrue, Option, Some, None}
 use Rattle.cm_words.specs.declared.fuse.EventKind.{EventKind}
 use Rattle.cm_words.specs.declared.fuse.EventKind.TheVariants.{Load, Store, Exchange}
 use Rattle.cm_words.specs.declared.fuse.Admit.{Admit}

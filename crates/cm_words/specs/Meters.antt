@@ -1,5 +1,5 @@
 -- A fuse with counts of what it admitted (own).
-use Rattle.std.specs.Prelude.{ℕ, ◌≡◌, ◌+◌, ◌<◌, ◌≤◌, IsTrue, Option, Some, None, Result, OnOk, OnErr}
+use Rattle.std.specs.Prelude.{ℕ, ◌≡◌, ◌+◌, ◌≤◌, IsTrue, Option, Some, None, Result, OnOk, OnErr}
 use Rattle.cm_words.specs.declared.fuse.EventKind.{EventKind}
 use Rattle.cm_words.specs.Fuses.{CountsFor, CountsDown, FuseSeen, Budget, IsUsedUp, stores_in}
 

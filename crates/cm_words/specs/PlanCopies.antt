@@ -8,6 +8,19 @@ use Rattle.cm_words.specs.declared.plan_copy.AskKind.{AskKind}
 use Rattle.cm_words.specs.declared.plan_copy.AskKind.TheVariants.{Put, Get, PutIfAbsent, Replace, ReplaceIf, Remove, RemoveIf, Count, List, Sweep}
 use Rattle.cm_words.specs.declared.plan_copy.PlanCopy.{PlanCopy}
 
+-- the kind of an operation
+abbrev pub kind_of_op : Op → AskKind
+kind_of_op (op.Put key value) = Put
+kind_of_op (op.Get key) = Get
+kind_of_op (op.PutIfAbsent key value) = PutIfAbsent
+kind_of_op (op.Replace key value) = Replace
+kind_of_op (op.ReplaceIf key expected value) = ReplaceIf
+kind_of_op (op.Remove key) = Remove
+kind_of_op (op.RemoveIf key expected) = RemoveIf
+kind_of_op (op.Count segment) = Count
+kind_of_op (op.List segment) = List
+kind_of_op (op.Sweep segment prefix) = Sweep
+
 -- the operation of a kind, with the bytes that it has
 abbrev pub op_of_kind : AskKind → AskCopy → Op
 op_of_kind Put ask = op.Put ask.key ask.value

@@ -5,12 +5,12 @@ ghost use Rattle.std.specs.Prelude.{◌≡◌, ◌+◌};
 use std::marker::Model;
 use std::snapshot::Snapshot;
 
-/// How often something happened, without a last value. Of a `Snapshot` no bytes are kept, so counting
-/// on takes neither memory nor time.
+/// How often something happened, without a last value. Of a `Snapshot` no bytes are kept, so a count takes
+/// neither memory nor time.
 #[derive(Drop)]
 #[cycle(count)]
 pub(crate) struct Count {
-    earlier: Earlier,
+    earlier: Snapshot<Earlier>,
 }
 
 #[derive(Drop)]
@@ -27,7 +27,7 @@ impl Model for Count {
 
     ghost use Rattle.cm_words.specs.Counts.{count_after};
 
-    ghost view = { λ c. count_after c.earlier };
+    ghost view = { λ c. count_after c.earlier.value };
 
     ghost size = { λ n. n };
 
@@ -42,7 +42,7 @@ impl Count {
         ensures { result ≡ 0 }
     {
         Count {
-            earlier: Earlier::Nothing,
+            earlier: Snapshot::of(&Earlier::Nothing),
         }
     }
 
@@ -51,7 +51,7 @@ impl Count {
         ensures { self.new ≡ self.old + 1 }
     {
         *self = Count {
-            earlier: Earlier::One(Snapshot::of(self)),
+            earlier: Snapshot::of(&Earlier::One(Snapshot::of(self))),
         };
     }
 }

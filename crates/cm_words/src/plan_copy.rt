@@ -3,7 +3,7 @@
 
 ghost use Rattle.std.specs.Prelude.{◌≡◌, ◌≤◌, [], length};
 ghost use Rattle.cm_plain.specs.Plans.{IsShort, IsShortOp, op_of_ask, plan_change};
-ghost use Rattle.cm_words.specs.PlanCopies.{copied_change, copied_op};
+ghost use Rattle.cm_words.specs.PlanCopies.{copied_change, copied_op, kind_of_op};
 
 use cm_plain::{Ask, Plan, PlanKind, Run};
 use std::marker::Model;
@@ -61,6 +61,23 @@ pub(crate) enum AskKind {
     Sweep,
 }
 
+fn kind_of(ask: &Ask<'_>) -> AskKind
+    ensures { result ≡ kind_of_op (op_of_ask ask.now) }
+{
+    match ask {
+        Ask::Put { .. } => AskKind::Put,
+        Ask::Get { .. } => AskKind::Get,
+        Ask::PutIfAbsent { .. } => AskKind::PutIfAbsent,
+        Ask::Replace { .. } => AskKind::Replace,
+        Ask::ReplaceIf { .. } => AskKind::ReplaceIf,
+        Ask::Remove { .. } => AskKind::Remove,
+        Ask::RemoveIf { .. } => AskKind::RemoveIf,
+        Ask::Count { .. } => AskKind::Count,
+        Ask::List { .. } => AskKind::List,
+        Ask::Sweep { .. } => AskKind::Sweep,
+    }
+}
+
 /// What is asked, with bytes of its own. A sweep's prefix stands in place of a key.
 #[derive(Drop)]
 pub(crate) struct AskCopy {
@@ -86,55 +103,30 @@ impl AskCopy {
         requires { IsShortOp (op_of_ask ask.now) }
         ensures { copied_op self.new ≡ op_of_ask ask.now }
     {
+        self.kind = kind_of(ask);
         match ask {
-            Ask::Put { key, value } => {
-                self.kind = AskKind::Put;
+            Ask::Put { key, value }
+            | Ask::PutIfAbsent { key, value }
+            | Ask::Replace { key, value } => {
                 self.key.set(key);
                 self.value.set(value);
             }
-            Ask::Get { key } => {
-                self.kind = AskKind::Get;
-                self.key.set(key);
-            }
-            Ask::PutIfAbsent { key, value } => {
-                self.kind = AskKind::PutIfAbsent;
-                self.key.set(key);
-                self.value.set(value);
-            }
-            Ask::Replace { key, value } => {
-                self.kind = AskKind::Replace;
-                self.key.set(key);
-                self.value.set(value);
-            }
+            Ask::Get { key } | Ask::Remove { key } => self.key.set(key),
             Ask::ReplaceIf {
                 key,
                 expected,
                 value,
             } => {
-                self.kind = AskKind::ReplaceIf;
                 self.key.set(key);
                 self.expected.set(expected);
                 self.value.set(value);
             }
-            Ask::Remove { key } => {
-                self.kind = AskKind::Remove;
-                self.key.set(key);
-            }
             Ask::RemoveIf { key, expected } => {
-                self.kind = AskKind::RemoveIf;
                 self.key.set(key);
                 self.expected.set(expected);
             }
-            Ask::Count { segment } => {
-                self.kind = AskKind::Count;
-                self.segment = *segment;
-            }
-            Ask::List { segment } => {
-                self.kind = AskKind::List;
-                self.segment = *segment;
-            }
+            Ask::Count { segment } | Ask::List { segment } => self.segment = *segment,
             Ask::Sweep { segment, prefix } => {
-                self.kind = AskKind::Sweep;
                 self.segment = *segment;
                 self.key.set(prefix);
             }
