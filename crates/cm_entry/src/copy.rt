@@ -14,7 +14,7 @@ pub(crate) fn copy_bytes<M: Mem>(mem: &mut M, span: Span, out: &mut [u8]) -> Res
     requires span { IsReadableSpan (M.seen mem.old) span }
     requires room { span.len ≤ length out.old }
     ensures copied { LoadsAnswer M.seen M.same_rest (λ _. parts_for 8 span.len) (λ words _. take span.len out.new ≡ bytes_in words span) mem.old mem.new result }
-    ensures behind { drop span.len out.new ≡ drop span.len out.old }
+    ensures rest { drop span.len out.new ≡ drop span.len out.old }
 {
     let whole = span.len / 8;
     for i in 0..whole {

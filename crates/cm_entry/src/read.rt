@@ -73,7 +73,7 @@ pub fn read_key_into<M: Mem>(
     requires room { 256 ≤ length out.old }
     ensures loads { LoadsCounted M.seen M.same_rest (λ len. 1 + parts_for 8 len) mem.old mem.new result }
     ensures key { IfOk result (IsPartCopy (M.seen mem.new) geo.now place chunk 256 (λ pair. pair.key) out.new) }
-    ensures behind { KeepsRest 256 out.old out.new result }
+    ensures rest { KeepsRest 256 out.old out.new result }
 {
     let span = key_span(mem, geo, place, chunk)?;
     copy_bytes(mem, span, out)?;
@@ -93,7 +93,7 @@ pub fn read_value_into<M: Mem>(
     requires room { 4096 ≤ length out.old }
     ensures loads { LoadsCounted M.seen M.same_rest (λ len. 1 + parts_for 8 len) mem.old mem.new result }
     ensures value { IfOk result (IsPartCopy (M.seen mem.new) geo.now place chunk 4096 (λ pair. pair.value) out.new) }
-    ensures behind { KeepsRest 4096 out.old out.new result }
+    ensures rest { KeepsRest 4096 out.old out.new result }
 {
     let span = value_span(mem, geo, place, chunk)?;
     copy_bytes(mem, span, out)?;

@@ -6,11 +6,11 @@ use borrow.Rule.Slice.PartMut.{post_of, put_mid}
 use Rattle.cm_image.specs.declared.stored.ImageStop.{ImageStop}
 use Rattle.cm_image.specs.declared.stored.ImageStop.TheVariants as stop
 use Rattle.cm_image.specs.Stops.{StopsPiece}
-use Rattle.cm_image.specs.Files.{ReadsFront, bytes_from}
+use Rattle.cm_image.specs.Files.{ReadsPrefix, bytes_from}
 
 -- so many bytes stand at the front of a buffer
-pub record IsFront (bytes : List ℕ) (at : ℕ) (buffer : List ℕ) : Type 0 where
-  pub front : take at buffer ≡ take at bytes
+pub record IsPrefix (bytes : List ℕ) (at : ℕ) (buffer : List ℕ) : Type 0 where
+  pub prefix : take at buffer ≡ take at bytes
   pub within : at ≤ length bytes
 
 -- the bytes of a file from a later place on
@@ -19,25 +19,25 @@ bytes_from-more None from at = sym (drop_all at [] (omega arith))
 bytes_from-more (Some bytes) from at = sym (drop-drop at from bytes)
 
 -- the next bytes, read behind those that stand there
-pub front-more : (bytes buffer part : List ℕ) (at count : ℕ) → at ≤ length buffer → count ≤ length part → IsFront bytes at buffer → ReadsFront (drop at bytes) count part
-    → IsFront bytes (at + count) (put_mid at (length buffer - at) buffer part)
-front-more bytes buffer part at count room fits is reads =
+pub prefix-more : (bytes buffer part : List ℕ) (at count : ℕ) → at ≤ length buffer → count ≤ length part → IsPrefix bytes at buffer → ReadsPrefix (drop at bytes) count part
+    → IsPrefix bytes (at + count) (put_mid at (length buffer - at) buffer part)
+prefix-more bytes buffer part at count room fits is reads =
     let behind = post_of at (length buffer - at) buffer in
     let start : length (take at buffer) ≡ at = length-take-le at buffer room in
     let cut : take (at + count) (put_mid at (length buffer - at) buffer part) ≡ take at buffer ++ take count (part ++ behind) =
     ap (λ (n : ℕ). take (n + count) (put_mid at (length buffer - at) buffer part)) (sym start) ∙ take-append-add (take at buffer) (part ++ behind) count in
     record {
-      front = cut ∙ ap (λ (t : List ℕ). take at buffer ++ t) (take-append-le count part behind fits ∙ reads.front)
-          ∙ ap (λ (t : List ℕ). t ++ take count (drop at bytes)) is.front ∙ sym (take-add at count bytes);
+      prefix = cut ∙ ap (λ (t : List ℕ). take at buffer ++ t) (take-append-le count part behind fits ∙ reads.prefix)
+          ∙ ap (λ (t : List ℕ). t ++ take count (drop at bytes)) is.prefix ∙ sym (take-add at count bytes);
       within = omega (arith, is.within, reads.within, length-drop at bytes);
     }
 
 -- words of a file, and the next ones
 pub words-more : (file later : Option (List ℕ)) (words more wanted : ℕ) (old part : List ℕ) → later ≡ file → old ≡ take (8 * words) (bytes_from file 64)
     → part ≡ take wanted (bytes_from later (64 + 8 * words)) → 8 * more ≡ 8 * words + wanted → old ++ part ≡ take (8 * more) (bytes_from file 64)
-words-more file later words more wanted old part same front next long =
+words-more file later words more wanted old part same prefix next long =
     let bytes = bytes_from file 64 in
-    ap (λ (t : List ℕ). t ++ part) front
+    ap (λ (t : List ℕ). t ++ part) prefix
     ∙ ap (λ (t : List ℕ). take (8 * words) bytes ++ t) (next ∙ ap (λ (f : Option (List ℕ)). take wanted (bytes_from f (64 + 8 * words))) same
     ∙ ap (take wanted) (bytes_from-more file 64 (8 * words)))
     ∙ sym (take-add (8 * words) wanted bytes) ∙ ap (λ (n : ℕ). take n bytes) (sym long)

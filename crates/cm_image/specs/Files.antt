@@ -19,7 +19,7 @@ bytes_from None from = []
 bytes_from (Some bytes) from = drop from bytes
 
 -- so many bytes of a list stand at the front of the buffer, and some do where there are any and the buffer has room
-pub record ReadsFront (bytes : List ℕ) (count : ℕ) (buffer : List ℕ) : Type 0 where
-  pub front : take count buffer ≡ take count bytes
+pub record ReadsPrefix (bytes : List ℕ) (count : ℕ) (buffer : List ℕ) : Type 0 where
+  pub prefix : take count buffer ≡ take count bytes
   pub within : count ≤ length bytes
-  pub some : 0 < length bytes → 0 < length buffer → 0 < count
+  pub moves : 0 < length bytes → 0 < length buffer → 0 < count

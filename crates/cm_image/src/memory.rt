@@ -3,7 +3,7 @@
 ghost use Rattle.std.specs.Prelude.{◌≡◌, ◌≤◌, ◌↔◌, [], ◌∷◌, None, Some, IsErr, IfOk, OnErr, OnOk, length, option_map};
 ghost use Rattle.std.specs.Io.{ReadsAtMost};
 ghost use Rattle.cm_image.specs.Faults.{HasCause, Rose};
-ghost use Rattle.cm_image.specs.Files.{ReadsFront, SameBut, SameFiles, bytes_from};
+ghost use Rattle.cm_image.specs.Files.{ReadsPrefix, SameBut, SameFiles, bytes_from};
 ghost use Rattle.cm_image.specs.InMemory.{CountsCall, IsToFail, SameCalls, failing_in, faults_in, files_in, next_call};
 
 use crate::Vault;
@@ -106,7 +106,7 @@ impl Vault for MapVault {
     fn read_at(&mut self, name: &str, from: u64, buf: &mut [u8]) -> Result<usize, Failed>
         ensures bound { ReadsAtMost result buf.new }
         ensures bytes { IfOk result
-            (λ count. ReadsFront (bytes_from (files_in self.old name.now) from) count buf.new) }
+            (λ count. ReadsPrefix (bytes_from (files_in self.old name.now) from) count buf.new) }
         ensures files { SameFiles (files_in self.old) (files_in self.new) }
         ensures calls { CountsCall self.old self.new }
         ensures fails { IsErr result ↔ IsToFail self.old }
@@ -140,7 +140,7 @@ impl Vault for MapVault {
 // Moves bytes from a place on to the front of a buffer, as many as there are and as it has room for.
 fn copy_from(bytes: &[u8], from: u64, buf: &mut [u8]) -> usize
     ensures bound { result ≤ length buf.old }
-    ensures bytes { ReadsFront (bytes_from (Some bytes.now) from) result buf.new }
+    ensures bytes { ReadsPrefix (bytes_from (Some bytes.now) from) result buf.new }
 {
     let start = (from as usize).min(bytes.len());
     let rest = &bytes[start..];

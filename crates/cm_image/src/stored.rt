@@ -140,7 +140,7 @@ fn read_words<V: Vault>(
     ensures told { V.tells vault.old → V.tells vault.new }
     ensures files { V.tells vault.old → SameFiles (V.files vault.old) (V.files vault.new) }
     ensures later { V.faults vault.old ≤ V.faults vault.new }
-    ensures many { IfOk result (λ words. length words.items ≡ words_in_map geo.now) }
+    ensures count { IfOk result (λ words. length words.items ≡ words_in_map geo.now) }
     ensures words { IfOk result (λ words. V.tells vault.old
         → word_bytes words.items ≡ take (8 * words_in_map geo.now) (bytes_from (V.files vault.old name.now) HEADER)) }
     ensures cause { IfErr result

@@ -3,7 +3,7 @@
 ghost use Rattle.std.specs.Prelude.{◌≡◌, ℕ, List, Option, Some, length, option_map, IfOk, OnOk};
 ghost use Rattle.std.specs.Io.{ReadsAtMost};
 ghost use Rattle.cm_image.specs.Faults.{HasCause};
-ghost use Rattle.cm_image.specs.Files.{Files, ReadsFront, SameBut, SameFiles, bytes_from};
+ghost use Rattle.cm_image.specs.Files.{Files, ReadsPrefix, SameBut, SameFiles, bytes_from};
 
 use cm_plain::Failed;
 
@@ -31,7 +31,7 @@ pub trait Vault {
         ensures told { tells self.old → tells self.new }
         ensures bound { ReadsAtMost result buf.new }
         ensures bytes { IfOk result
-            (λ count. tells self.old → ReadsFront (bytes_from (files self.old name.now) from) count buf.new) }
+            (λ count. tells self.old → ReadsPrefix (bytes_from (files self.old name.now) from) count buf.new) }
         ensures files { tells self.old → SameFiles (files self.old) (files self.new) }
         ensures cause { HasCause (faults self.old) (faults self.new) result };
 

@@ -21,7 +21,7 @@ pub(crate) fn extend_bytes(bytes: &mut Vec<u8>, words: &[u64]) -> Result<(), All
 pub(crate) fn extend_words(words: &mut Vec<u64>, bytes: &[u8]) -> Result<(), AllocError>
     requires whole { length bytes.now % 8 ≡ 0 }
     requires room { vec_len words.old + length bytes.now < 2 ^ 60 }
-    ensures many { OnOk result (vec_len words.new ≡ vec_len words.old + length bytes.now / 8) }
+    ensures count { OnOk result (vec_len words.new ≡ vec_len words.old + length bytes.now / 8) }
     ensures bytes { OnOk result (word_bytes words.new.items ≡ word_bytes words.old.items ++ bytes.now) }
 {
     let start = words.len();

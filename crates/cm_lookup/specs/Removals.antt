@@ -1,5 +1,5 @@
 -- What the removal of a slot does over a memory (own).
-use Rattle.std.specs.Prelude.{ℕ, ◌≡◌, ◌≢◌, List, slice_set, None}
+use Rattle.std.specs.Prelude.{ℕ, ◌≢◌, List, slice_set, None}
 use Rattle.cm_geo.specs.declared.geo.Geo.{Geo}
 use Rattle.cm_geo.specs.Addresses.{slot_at}
 use Rattle.cm_plain.specs.Slots.{slot_in}

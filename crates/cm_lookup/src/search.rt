@@ -14,9 +14,10 @@ use cm_words::{Dead, Mem};
 fn chunk_for(word: u64, fingerprint: u32, chunks: u32) -> Option<u32>
     ensures { ChunkFor word fingerprint chunks result }
 {
-    let low = (word & u64::from(u32::MAX)) as u32;
-    if (word >> 32) as u32 == fingerprint && 1 <= low && low <= chunks {
-        Some(low - 1)
+    // An empty lower half wraps to a number that is no chunk's.
+    let chunk = ((word & u64::from(u32::MAX)) as u32).wrapping_sub(1);
+    if (word >> 32) as u32 == fingerprint && chunk < chunks {
+        Some(chunk)
     } else {
         None
     }

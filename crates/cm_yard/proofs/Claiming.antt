@@ -75,9 +75,9 @@ module _ (geo : Geo) (first words : List ℕ) (index segment : ℕ) (there : ind
             let i = one_if_same index j (sym e) in
             omega arith)
             (λ ne. let same = ap owners_of (set_there j ne) in let i = one_if_other index j (λ e. ne (sym e)) in omega arith));
-        few = λ j inside. dite (ℕ_discrete j index)
+        within = λ j inside. dite (ℕ_discrete j index)
             (λ e. let s = ap (claim_at geo (set words (geo.segments + index) (segment + 1))) e ∙ set_here in omega arith)
-            (λ ne. let s = set_there j ne in let f = k.few j inside in omega arith);
+            (λ ne. let s = set_there j ne in let f = k.within j inside in omega arith);
         stays = λ j inside some_there. (let s = k.stays j inside some_there in
             set_there j (λ e. some_there (sym s ∙ (ap (claim_at geo words) e ∙ free))) ∙ s);
         each = (let mine = stays v (all_at (KnowsClaims geo words) views id v at k.each) in
@@ -110,8 +110,8 @@ module _ (key : Key) (slots id : ℕ) (me : SeatState) (live : me.0.number ≢ 6
       let w = with_claim v index segment in
       let is : segment ≡ segment + 1 - 1 = omega arith in
       subst (λ (n : ℕ). IsYard key (stepped s (key.geo.segments + index) (segment + 1) id me.1 (with_claim me.0 index n) keeps)) is record {
-        many = length-set s.words (key.geo.segments + index) (segment + 1) ∙ r.many;
-        claims = claims_given key.geo key.first s.words index segment there here free r.many s.views id v at r.claims;
+        length_is = length-set s.words (key.geo.segments + index) (segment + 1) ∙ r.length_is;
+        claims = claims_given key.geo key.first s.words index segment there here free r.length_is s.views id v at r.claims;
         counts = All-set CountsExchanges s.views id w (counts_given v index segment (all_at CountsExchanges s.views id v at r.counts)) r.counts;
         stops = stops_frame key.geo key.first s.words (set s.words (key.geo.segments + index) (segment + 1)) s.views id v w at (claim_keeps key.geo s.words index (segment + 1)) refl (all_at (KnowsStops key.geo s.words s.views) s.views id v at r.stops.each).found r.stops;
         seats = seats_frame s.views r.seats id v at w live refl refl refl refl;
@@ -125,10 +125,10 @@ module _ (key : Key) (slots id : ℕ) (me : SeatState) (live : me.0.number ≢ 6
       let word : ℕ = claim_at key.geo s.words index in
       let o : OwnedWord = record { index = index; segment = word - 1 } in
       let w = with_misses v (o ∷ []) in
-      let few = r.claims.few index there in
+      let within = r.claims.within index there in
       let above : 1 ≤ word = positive word owned in
       let is : IsOwned key.geo s.words o = record { there = there; here = omega arith; word = omega arith } in record {
-        many = r.many;
+        length_is = r.length_is;
         claims = claims_frame key.geo key.first s.words s.words s.views id v w at (λ j inside. refl) refl (All-push (IsOwned key.geo s.words) v.misses o (all_at (KnowsClaims key.geo s.words) s.views id v at r.claims.each).found is) r.claims;
         counts = All-set CountsExchanges s.views id w (counts_missed v o (all_at CountsExchanges s.views id v at r.counts)) r.counts;
         stops = stops_frame key.geo key.first s.words s.words s.views id v w at (λ j inside. refl) refl (all_at (KnowsStops key.geo s.words s.views) s.views id v at r.stops.each).found r.stops;

@@ -98,12 +98,12 @@ owned_upto geo words long =
     let all = upto_words xs geo.extra (omega arith) in
     ap (count_by (λ word. nat_lt 0 word)) (sym whole) ∙ (all ∙ upto_same (λ j. owners_of (get_or xs j 0)) (λ j. owners_of (claim_at geo words j)) geo.extra (λ j less. ap owners_of (get_or-drop geo.segments words j 0)))
 
-module _ (geo : Geo) (first words : List ℕ) (v : View) (many_first : length first ≡ words_in_yard geo) (many : length words ≡ words_in_yard geo) (k : AreClaims geo first words (v ∷ [])) where
+module _ (geo : Geo) (first words : List ℕ) (v : View) (many_first : length first ≡ words_in_yard geo) (length_is : length words ≡ words_in_yard geo) (k : AreClaims geo first words (v ∷ [])) where
   -- what is owned was owned at the start, or given
   pub owned_sum : owned_in geo words ≡ owned_in geo first + length v.claims
   owned_sum =
       let all : All (IsOwned geo words) v.claims = (k.each 0 v (omega arith)).given in
-      let now = owned_upto geo words many in
+      let now = owned_upto geo words length_is in
       let start = owned_upto geo first many_first in
       let claims = upto_claims geo.extra v.claims (All-weaker (IsOwned geo words) (λ (o : OwnedWord). o.index < geo.extra) (λ o is. is.there) v.claims all) in
       let plus = upto_plus (λ j. owners_of (claim_at geo first j)) (λ j. claims_of j v) geo.extra in
@@ -113,13 +113,13 @@ module _ (geo : Geo) (first words : List ℕ) (v : View) (many_first : length fi
 
   -- there are no more owned words than claim words
   pub owned_few : owned_in geo words ≤ geo.extra
-  owned_few = let now = owned_upto geo words many in let few = upto_few (λ j. owners_of (claim_at geo words j)) geo.extra (λ j. owners_few (claim_at geo words j)) in omega arith
+  owned_few = let now = owned_upto geo words length_is in let within = upto_few (λ j. owners_of (claim_at geo words j)) geo.extra (λ j. owners_few (claim_at geo words j)) in omega arith
 
   -- where each was found owned, all are
   pub owned_all : HasFoundAll geo.extra v → owned_in geo words ≡ geo.extra
   owned_all found =
       let all : All (IsOwned geo words) v.misses = (k.each 0 v (omega arith)).found in
-      let now = owned_upto geo words many in
+      let now = owned_upto geo words length_is in
       let same = upto_same (λ j. owners_of (claim_at geo words j)) (λ j. 1) geo.extra
       (λ j less.
       let any = found j less in

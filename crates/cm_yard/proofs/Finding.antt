@@ -48,7 +48,7 @@ finds_more old mid now n segment k is =
 pub finds_all : (old now : View) (extra : ℕ) → FindsOwned old now extra → HasFoundAll extra now
 finds_all old now extra k = λ index less.
     let o : OwnedWord = get_or k.words index (record { index = 0; segment = 0 }) in
-    let many : length k.words ≡ extra = sym (length-map k.words (λ (w : OwnedWord). w.index)) ∙ (ap length k.in_order ∙ length-range_with_len 0 extra) in
+    let length_is : length k.words ≡ extra = sym (length-map k.words (λ (w : OwnedWord). w.index)) ∙ (ap length k.in_order ∙ length-range_with_len 0 extra) in
     let inside : index < length k.words = omega arith in
     let is : o.index ≡ index = index_at k.words index inside ∙ (ap (λ (t : List ℕ). get_or t index 0) k.in_order ∙ (get_or-range_with_len 0 extra index 0 less ∙ plus index)) in
     let l = length-append old.misses k.words in

@@ -25,7 +25,7 @@ owned_same geo words words' same o is = record { there = is.there; here = is.her
 
 -- and likewise what is in force
 pub stopped_same : (geo : Geo) (words words' : List ℕ) → SameStops geo words words' → (s : StopNumber) → IsInForce geo words s → IsInForce geo words' s
-stopped_same geo words words' same s is = record { here = is.here; above = is.above; few = is.few; stands = λ none. is.stands (sym (same s.segment is.here) ∙ none) }
+stopped_same geo words words' same s is = record { here = is.here; above = is.above; within = is.within; stands = λ none. is.stands (sym (same s.segment is.here) ∙ none) }
 
 -- a change of a stop word keeps the claim words
 pub stop_keeps : (geo : Geo) (words : List ℕ) (segment n : ℕ) → segment < geo.segments → SameClaims geo words (set words segment n)
@@ -46,7 +46,7 @@ module _ (geo : Geo) (first words words' : List ℕ) (views : List View) (id : �
     once = λ index inside.
         ap (λ (n : ℕ). owners_of (claim_at geo first index) + n) (sum_same (claims_of index) views id v w at (count_same index))
         ∙ (k.once index inside ∙ ap owners_of (sym (same index inside)));
-    few = λ index inside. subst (λ (n : ℕ). n ≤ geo.segments) (sym (same index inside)) (k.few index inside);
+    within = λ index inside. subst (λ (n : ℕ). n ≤ geo.segments) (sym (same index inside)) (k.within index inside);
     stays = λ index inside some_there. same index inside ∙ k.stays index inside some_there;
     each = All-set (KnowsClaims geo words') views id w (record { given = still w.claims (subst (All (IsOwned geo words)) (sym given) (all_at (KnowsClaims geo words) views id v at k.each).given); found = still w.misses found })
         (All-weaker (KnowsClaims geo words) (KnowsClaims geo words') (λ u has. record { given = still u.claims has.given; found = still u.misses has.found }) views k.each);

@@ -45,14 +45,14 @@ there_counted n (m ∷ ns) h = dite (ℕ_discrete m n)
 -- a seat that has a number still keeps what is asked of it
 pub still_seat : (v w : View) → v.number ≢ 65 → w.number ≡ v.number → w.made ≡ v.made → w.joined ≡ v.joined → w.due ≡ v.due → IsSeat v → IsSeat w
 still_seat v w live n m j d k = record {
-  few = subst (λ (z : ℕ). z ≤ 65) (sym n) k.few;
+  within = subst (λ (z : ℕ). z ≤ 65) (sym n) k.within;
   only_root = λ ne. (let o = k.only_root (λ z. ne (n ∙ z)) in (m ∙ o.0, j ∙ o.1, d ∙ o.2));
   nothing = λ z. absurd (live (sym n ∙ z));
 }
 
 -- a seat in somebody's hand isn't spent
 pub live_number : (n : ℕ) → n ≤ 64 → n ≢ 65
-live_number n few e = omega arith
+live_number n within e = omega arith
 
 module _ (views : List View) (r : AreSeats views) (id : ℕ) (v : View) (at : get_elem? views id ≡ some v) where
   -- a seat that keeps its numbers
@@ -83,7 +83,7 @@ module _ (views : List View) (r : AreSeats views) (id : ℕ) (v : View) (at : ge
 
   -- the root may change
   root_seat : (w : View) → v.number ≡ 64 → w.number ≡ 64 → IsSeat w
-  root_seat w is is' = record { few = omega arith; only_root = λ ne. absurd (ne is'); nothing = λ z. absurd (omega arith) }
+  root_seat w is is' = record { within = omega arith; only_root = λ ne. absurd (ne is'); nothing = λ z. absurd (omega arith) }
 
   -- the root notes a number that it never made
   pub seats_due : (k : ℕ) → v.number ≡ 64 → v.due ≡ [] → count_of k v.made ≡ 0 → AreSeats (set views id (with_due v k))
@@ -111,7 +111,7 @@ module _ (views : List View) (r : AreSeats views) (id : ℕ) (v : View) (at : ge
         living = λ n less.
             (let t = sum_set (made_count n) views id v w at in let q = sum_by_push (made_count n) mid u in let s = sum_set (held_count n) views id v w at in let p = sum_by_push (held_count n) mid u in
             let o = r.living n less in let c = child_has n in omega arith);
-        each = All-push IsSeat mid u (All-set IsSeat views id w (root_seat w is is) r.each) record { few = omega arith; only_root = λ _. (refl, refl, refl); nothing = λ z. absurd (omega arith) };
+        each = All-push IsSeat mid u (All-set IsSeat views id w (root_seat w is is) r.each) record { within = omega arith; only_root = λ _. (refl, refl, refl); nothing = λ z. absurd (omega arith) };
       }
 
   -- the root joins another seat
@@ -128,7 +128,7 @@ module _ (views : List View) (r : AreSeats views) (id : ℕ) (v : View) (at : ge
             let s = sum_set (held_count n) views id v w at in let p = sum_set (held_count n) mid other o spent_view there' in
             let j : count_of n o.joined ≡ 0 = ap (count_of n) bare.1 in let d : count_of n o.due ≡ 0 = ap (count_of n) bare.2 in
             let c = count_cons n o.number v.joined in let z = no_name n (omega arith) in let k = r.living n less in omega arith);
-        each = All-set IsSeat mid other spent_view record { few = omega arith; only_root = λ _. (refl, refl, refl); nothing = λ _. refl } (All-set IsSeat views id w (root_seat w is is) r.each);
+        each = All-set IsSeat mid other spent_view record { within = omega arith; only_root = λ _. (refl, refl, refl); nothing = λ _. refl } (All-set IsSeat views id w (root_seat w is is) r.each);
       }
 
   -- where every seat that was made was joined, all others are spent
@@ -136,7 +136,7 @@ module _ (views : List View) (r : AreSeats views) (id : ℕ) (v : View) (at : ge
   alone is all j u ne h =
       let k = all_at IsSeat views j u h r.each in
       k.nothing (dite (ℕ_discrete u.number 65) (λ e. e) (λ live.
-      let few = k.few in let not_root = others is j u ne h in let small : u.number < 64 = omega arith in
+      let within = k.within in let not_root = others is j u ne h in let small : u.number < 64 = omega arith in
       let n : ℕ = u.number in
       let made = made_alone is n in
       let two = sum_two (held_count n) views j id u v ne h at in

@@ -45,9 +45,9 @@ owners_small segment [] = λ k d less. absurd (omega arith)
 owners_small segment (n ∷ ns) =
     All-append (λ (word : ℕ). word ≤ segment + length (n ∷ ns)) (replicate n (segment + 1)) (owners_from (segment + 1) ns)
     (All-replicate (λ (word : ℕ). word ≤ segment + length (n ∷ ns)) n (segment + 1) (omega arith))
-    (All-weaker (λ (word : ℕ). word ≤ (segment + 1) + length ns) (λ (word : ℕ). word ≤ segment + length (n ∷ ns)) (λ word few. omega arith) (owners_from (segment + 1) ns) (owners_small (segment + 1) ns))
+    (All-weaker (λ (word : ℕ). word ≤ (segment + 1) + length ns) (λ (word : ℕ). word ≤ segment + length (n ∷ ns)) (λ word within. omega arith) (owners_from (segment + 1) ns) (owners_small (segment + 1) ns))
 
-module _ (geo : Geo) (linked : List ℕ) (long : length linked ≡ geo.segments) (few : sum linked ≤ geo.extra) where
+module _ (geo : Geo) (linked : List ℕ) (long : length linked ≡ geo.segments) (within : sum linked ≤ geo.extra) where
   -- they are as many as a yard has
   pub first_length : length (first_words geo linked) ≡ words_in_yard geo
   first_length =
@@ -135,7 +135,7 @@ owners_done geo linked words i len whole long is =
 
 -- there is room for what is left
 pub owners_room : (geo : Geo) (linked words : List ℕ) (i : ℕ) → sum linked ≤ geo.extra → words ≡ replicate geo.segments 0 ++ owners_from 0 (take i linked) → length words ≤ geo.segments + geo.extra
-owners_room geo linked words i few is =
+owners_room geo linked words i within is =
     let a = length-append (replicate geo.segments 0) (owners_from 0 (take i linked)) in
     let b = replicate_long geo.segments 0 in
     let c = owners_fit linked i in

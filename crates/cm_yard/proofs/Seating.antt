@@ -31,7 +31,7 @@ numbering key slots id me n is none_due never s r _ at _ =
       keeps,
       tt,
       subst (λ (ws : List ℕ). IsYard key (record { words = ws; homes = s.homes; views = set s.views id w })) (sym (set-get_or s.words 0 0)) record {
-        many = r.many;
+        length_is = r.length_is;
         claims = claims_frame key.geo key.first s.words s.words s.views id v w at (λ j inside. refl) refl (all_at (KnowsClaims key.geo s.words) s.views id v at r.claims.each).found r.claims;
         counts = All-set CountsExchanges s.views id w (all_at CountsExchanges s.views id v at r.counts) r.counts;
         stops = stops_frame key.geo key.first s.words s.words s.views id v w at (λ j inside. refl) refl (all_at (KnowsStops key.geo s.words s.views) s.views id v at r.stops.each).found r.stops;
@@ -44,7 +44,7 @@ numbering key slots id me n is none_due never s r _ at _ =
 claims_fresh : (geo : Geo) (first words : List ℕ) (views : List View) (n : ℕ) → AreClaims geo first words views → AreClaims geo first words (views ++ new_view n ∷ [])
 claims_fresh geo first words views n k = record {
   once = λ index inside. (let p = sum_by_push (claims_of index) views (new_view n) in let o = k.once index inside in omega arith);
-  few = k.few;
+  within = k.within;
   stays = k.stays;
   each = All-push (KnowsClaims geo words) views (new_view n) k.each record { given = All-nil (IsOwned geo words); found = All-nil (IsOwned geo words) };
 }
@@ -65,7 +65,7 @@ stops_fresh geo words views n k = record {
 pub splits : (key : Key) (id : ℕ) (v : View) (n : ℕ) → v.number ≡ 64 → v.due ≡ n ∷ [] → n < 64 → Splits (IsYard key) id v (without_due v) (child v)
 splits key id v n is due small s r at =
     let w = without_due v in let mid = set s.views id w in record {
-      many = r.many;
+      length_is = r.length_is;
       claims = claims_fresh key.geo key.first s.words mid (child v).number (claims_frame key.geo key.first s.words s.words s.views id v w at (λ j inside. refl) refl (all_at (KnowsClaims key.geo s.words) s.views id v at r.claims.each).found r.claims);
       counts = All-push CountsExchanges mid (child v) (All-set CountsExchanges s.views id w (all_at CountsExchanges s.views id v at r.counts) r.counts) refl;
       stops = stops_fresh key.geo s.words mid (child v).number (stops_frame key.geo key.first s.words s.words s.views id v w at (λ j inside. refl) refl (all_at (KnowsStops key.geo s.words s.views) s.views id v at r.stops.each).found r.stops);
@@ -99,7 +99,7 @@ module _ (geo : Geo) (first words : List ℕ) (views : List View) (id other : �
             (let a = sum_set (claims_of j) views id v w at in let b = sum_set (claims_of j) mid other o spent_view there in
             let p : claims_of j w ≡ claims_of j v + claims_of j o = sum_by-append (λ (c : OwnedWord). if c.index == j then 1 else 0) v.claims o.claims in
             let n = k.once j inside in omega arith);
-        few = k.few;
+        within = k.within;
         stays = k.stays;
         each = (let mine = all_at (KnowsClaims geo words) views id v at k.each in let theirs = all_at (KnowsClaims geo words) views other o at_other k.each in
             All-set (KnowsClaims geo words) mid other spent_view (record { given = All-nil (IsOwned geo words); found = All-nil (IsOwned geo words) })
@@ -134,7 +134,7 @@ joins key id v other o is live s r at apart there =
     let eo = all_at CountsExchanges s.views other o at_other r.counts in
     let lc = length-append v.claims o.claims in
     let lm = length-append v.misses o.misses in record {
-      many = r.many;
+      length_is = r.length_is;
       claims = claims_join key.geo key.first s.words s.views id other v o apart at at_other there r.claims;
       counts = All-set CountsExchanges mid other spent_view refl (All-set CountsExchanges s.views id w (omega arith) r.counts);
       stops = stops_join key.geo key.first s.words s.views id other v o apart at at_other there r.stops;
@@ -150,11 +150,11 @@ closes key id v ws xs is all f =
     any_one (λ (u : View). Contains u.raises t) v
     (any_alone (λ (u : View). Contains u.raises t) s.views id v at (λ j u ne h has. no_raise t (subst (λ (x : View). Contains x.raises t) (rest j u ne h) has)) raised) in
     subst (Closes key v) f.2 record {
-      many = r.many;
+      length_is = r.length_is;
       claims = record {
         once = λ index inside.
             (let e = sum_alone (claims_of index) s.views id v at (λ j u ne h. ap (claims_of index) (rest j u ne h)) in let c = sum_by-cons (claims_of index) v [] in let o = r.claims.once index inside in omega arith);
-        few = r.claims.few;
+        within = r.claims.within;
         stays = r.claims.stays;
         each = all_one (KnowsClaims key.geo s.words) v (all_at (KnowsClaims key.geo s.words) s.views id v at r.claims.each);
       };
@@ -175,23 +175,23 @@ root_other n small = grind arith
 
 -- the rule at the start
 pub opens : (key : Key) (linked : List ℕ) → length linked ≡ key.geo.segments → sum linked ≤ key.geo.extra → key.first ≡ first_words key.geo linked → IsYard key (opening key.first [] root_view)
-opens key linked long few is = record {
-  many = ap length is ∙ first_length key.geo linked long few;
+opens key linked long within is = record {
+  length_is = ap length is ∙ first_length key.geo linked long within;
   claims = record {
     once = λ index inside. (let c = sum_by-cons (claims_of index) root_view [] in omega arith);
-    few = λ index inside. subst (λ (ws : List ℕ). claim_at key.geo ws index ≤ key.geo.segments) (sym is) (first_few key.geo linked long few index inside);
+    within = λ index inside. subst (λ (ws : List ℕ). claim_at key.geo ws index ≤ key.geo.segments) (sym is) (first_few key.geo linked long within index inside);
     stays = λ index inside some_there. refl;
     each = all_one (KnowsClaims key.geo key.first) root_view record { given = All-nil (IsOwned key.geo key.first); found = All-nil (IsOwned key.geo key.first) };
   };
   counts = all_one CountsExchanges root_view refl;
   stops = record {
-    from = λ segment here stands. absurd (stands (ap (λ (ws : List ℕ). stop_at ws segment) is ∙ first_stops key.geo linked long few segment here));
+    from = λ segment here stands. absurd (stands (ap (λ (ws : List ℕ). stop_at ws segment) is ∙ first_stops key.geo linked long within segment here));
     each = all_one (KnowsStops key.geo key.first (root_view ∷ [])) root_view record { raised = All-nil (IsInForce key.geo key.first); found = All-nil (IsFound (root_view ∷ [])) };
   };
   seats = record {
     one_root = refl;
     once = λ n. omega arith;
     living = λ n small. (let e = root_other n small in omega arith);
-    each = all_one IsSeat root_view record { few = omega arith; only_root = λ ne. absurd (ne refl); nothing = λ e. absurd (omega arith) };
+    each = all_one IsSeat root_view record { within = omega arith; only_root = λ ne. absurd (ne refl); nothing = λ e. absurd (omega arith) };
   };
 }

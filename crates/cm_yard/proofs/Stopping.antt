@@ -27,7 +27,7 @@ note_of a n = record { segment = a; number = n }
 same_note : (a b n m : ℕ) → a ≡ b → n ≡ m → note_of a n ≡ note_of b m
 same_note a b n m e f = λ i. record { segment = e i; number = f i }
 
-module _ (geo : Geo) (words : List ℕ) (segment number : ℕ) (here : segment < geo.segments) (above : 0 < number) (few : number ≤ 2) (long : length words ≡ words_in_yard geo) where
+module _ (geo : Geo) (words : List ℕ) (segment number : ℕ) (here : segment < geo.segments) (above : 0 < number) (within : number ≤ 2) (long : length words ≡ words_in_yard geo) where
   -- that word after the store
   set_here : stop_at (set words segment number) segment ≡ number
   set_here = get_or-set_same words segment number 0 (omega arith)
@@ -41,7 +41,7 @@ module _ (geo : Geo) (words : List ℕ) (segment number : ℕ) (here : segment <
   still s is = record {
     here = is.here;
     above = is.above;
-    few = is.few;
+    within = is.within;
     stands = λ none. dite (ℕ_discrete s.segment segment)
         (λ e. let w = ap (stop_at (set words segment number)) e ∙ set_here in absurd (omega arith))
         (λ ne. is.stands (sym (set_there s.segment ne) ∙ none));
@@ -68,7 +68,7 @@ module _ (geo : Geo) (words : List ℕ) (segment number : ℕ) (here : segment <
             let mine = knows v (all_at (KnowsStops geo words views) views id v at k.each) in
             All-set (KnowsStops geo (set words segment number) (set views id w)) views id w
             (record {
-              raised = All-push (IsInForce geo (set words segment number)) v.raises note mine.raised record { here = here; above = above; few = few; stands = λ none. absurd (omega (arith, set_here)) };
+              raised = All-push (IsInForce geo (set words segment number)) v.raises note mine.raised record { here = here; above = above; within = within; stands = λ none. absurd (omega (arith, set_here)) };
               found = mine.found;
             })
             (All-weaker (KnowsStops geo words views) (KnowsStops geo (set words segment number) (set views id w)) knows views k.each));
@@ -77,17 +77,17 @@ module _ (geo : Geo) (words : List ℕ) (segment number : ℕ) (here : segment <
 module _ (key : Key) (slots id : ℕ) (me : SeatState) (live : me.0.number ≢ 65) (segment : ℕ) (here : segment < key.geo.segments) where
   -- a raise
   pub raising : (number : ℕ) → 0 < number → number ≤ 2 → Allows (IsYard key) slots id me segment (λ _. number) (λ _. RaisesStop (step slots segment number 0 none) me number)
-  raising number above few s r _ at _ =
+  raising number above within s r _ at _ =
       let v = me.0 in
       let w = with_raise v segment number in (
         w,
         keeps,
         tt,
         record {
-          many = length-set s.words segment number ∙ r.many;
+          length_is = length-set s.words segment number ∙ r.length_is;
           claims = claims_frame key.geo key.first s.words (set s.words segment number) s.views id v w at (stop_keeps key.geo s.words segment number here) refl (all_at (KnowsClaims key.geo s.words) s.views id v at r.claims.each).found r.claims;
           counts = All-set CountsExchanges s.views id w (all_at CountsExchanges s.views id v at r.counts) r.counts;
-          stops = stops_raised key.geo s.words segment number here above few r.many s.views id v at r.stops;
+          stops = stops_raised key.geo s.words segment number here above within r.length_is s.views id v at r.stops;
           seats = seats_frame s.views r.seats id v at w live refl refl refl refl;
         },
         (refl, refl),
@@ -102,7 +102,7 @@ module _ (key : Key) (slots id : ℕ) (me : SeatState) (live : me.0.number ≢ 6
       let v = raised.1 in let has = raised.4 in
       let all : All (IsInForce key.geo words) v.raises = subst (λ (u : View). All (IsInForce key.geo words) u.raises) raised.3 (k.each raised.0 raised.1 raised.2).raised in
       let one : IsInForce key.geo words (record { segment = segment; number = stop_at words segment }) = subst (IsInForce key.geo words) has.2 (all has.0 _ has.1) in
-      one.few)
+      one.within)
 
   -- a load
   pub finding : Allows (IsYard key) slots id me segment (λ n. n) (FindsStop (step slots segment 0 0 none) me)
@@ -116,7 +116,7 @@ module _ (key : Key) (slots id : ℕ) (me : SeatState) (live : me.0.number ≢ 6
         keeps,
         tt,
         subst (λ (ws : List ℕ). IsYard key (record { words = ws; homes = s.homes; views = set s.views id w })) (sym same) record {
-          many = r.many;
+          length_is = r.length_is;
           claims = claims_frame key.geo key.first s.words s.words s.views id v w at (λ j inside. refl) refl (all_at (KnowsClaims key.geo s.words) s.views id v at r.claims.each).found r.claims;
           counts = All-set CountsExchanges s.views id w (all_at CountsExchanges s.views id v at r.counts) r.counts;
           stops = stops_frame key.geo key.first s.words s.words s.views id v w at (λ j inside. refl) refl (All-push (IsFound s.views) v.stops note (all_at (KnowsStops key.geo s.words s.views) s.views id v at r.stops.each).found (λ stands. r.stops.from segment here stands)) r.stops;

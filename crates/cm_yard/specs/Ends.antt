@@ -11,7 +11,7 @@ AllJoined v = All (Contains v.joined) v.made
 
 -- the words at the end, of which the root alone has noted something
 pub record Closes (key : Key) (v : View) (words : List ℕ) : Type 0 where
-  pub many : length words ≡ words_in_yard key.geo
+  pub length_is : length words ≡ words_in_yard key.geo
   pub claims : AreClaims key.geo key.first words (v ∷ [])
   pub counts : CountsExchanges v
   pub stops : AreStops key.geo words (v ∷ [])

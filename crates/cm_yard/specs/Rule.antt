@@ -34,7 +34,7 @@ pub record KnowsClaims (geo : Geo) (words : List ℕ) (v : View) : Type 0 where
 -- else. What was owned at the start stays, and so does what a seat was given or found owned
 pub record AreClaims (geo : Geo) (first words : List ℕ) (views : List View) : Type 0 where
   pub once : (index : ℕ) → index < geo.extra → owners_of (claim_at geo first index) + sum_by (claims_of index) views ≡ owners_of (claim_at geo words index)
-  pub few : (index : ℕ) → index < geo.extra → claim_at geo words index ≤ geo.segments
+  pub within : (index : ℕ) → index < geo.extra → claim_at geo words index ≤ geo.segments
   pub stays : (index : ℕ) → index < geo.extra → claim_at geo first index ≢ 0 → claim_at geo words index ≡ claim_at geo first index
   pub each : All (KnowsClaims geo words) views
 
@@ -52,7 +52,7 @@ IsRaised views s = Any (λ v. Contains v.raises s) views
 pub record IsInForce (geo : Geo) (words : List ℕ) (s : StopNumber) : Type 0 where
   pub here : s.segment < geo.segments
   pub above : 0 < s.number
-  pub few : s.number ≤ 2
+  pub within : s.number ≤ 2
   pub stands : stop_at words s.segment ≢ 0
 
 -- a number that was found in a stop word is 0, or some seat raised it there
@@ -89,7 +89,7 @@ made_count n v = count_of n v.made
 
 -- the root alone makes and joins seats; a spent seat has noted nothing
 pub record IsSeat (v : View) : Type 0 where
-  pub few : v.number ≤ 65
+  pub within : v.number ≤ 65
   pub only_root : v.number ≢ 64 → (v.made ≡ []) × (v.joined ≡ []) × (v.due ≡ [])
   pub nothing : v.number ≡ 65 → v ≡ spent_view
 
@@ -104,7 +104,7 @@ pub record AreSeats (views : List View) : Type 0 where
 
 -- the words and the views of a yard
 pub record IsYard (key : Key) (s : table.State (Unit {0}) View) : Type 0 where
-  pub many : length s.words ≡ words_in_yard key.geo
+  pub length_is : length s.words ≡ words_in_yard key.geo
   pub claims : AreClaims key.geo key.first s.words s.views
   pub counts : All CountsExchanges s.views
   pub stops : AreStops key.geo s.words s.views

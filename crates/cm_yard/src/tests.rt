@@ -142,7 +142,7 @@ fn the_first_claims_are_of_the_tiers_linked_at_the_start(rt: HostRuntime) -> Res
 
 /// A yard with these numbers of linked tiers, and its root.
 fn start(alloc: Global, segments: u32, extra: u32, linked: &[u32]) -> Result<(Yard, YardSeat), Fail>
-    requires many { length linked.now ≡ segments }
+    requires length_is { length linked.now ≡ segments }
     requires within_limit { sum linked.now ≤ extra }
     ensures its { IfOk result (λ r. IsOf r.1 r.0) }
     ensures geo { IfOk result (λ r. ((key_of r.0).geo.segments ≡ segments) × ((key_of r.0).geo.extra ≡ extra)) }

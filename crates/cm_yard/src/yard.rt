@@ -39,7 +39,7 @@ pub struct YardSeat {
 
 /// The words at the start. Takes memory.
 pub(crate) fn first_words(alloc: Global, geo: &Geo, linked: &[u32]) -> Result<Vec<u64>, NoMemory>
-    requires many { length linked.now ≡ geo.now.segments }
+    requires length_is { length linked.now ≡ geo.now.segments }
     requires within_limit { sum linked.now ≤ geo.now.extra }
     ensures { IfOk result (λ words. words.items ≡ first_words geo.now linked.now) }
 {
@@ -69,7 +69,7 @@ impl Yard {
     /// A yard whose first claims belong to the extra tiers that are linked already, `linked[s]` of them to
     /// segment `s`, and its root seat. Takes memory: NoMemory where none is left, and no other error.
     pub fn new(alloc: Global, geo: &Geo, linked: &[u32]) -> Result<(Yard, YardSeat), NoMemory>
-        requires many { length linked.now ≡ geo.now.segments }
+        requires length_is { length linked.now ≡ geo.now.segments }
         requires within_limit { sum linked.now ≤ geo.now.extra }
         ensures key { IfOk result (λ r. key_of r.0 ≡ record { geo = geo.now; first = first_words geo.now linked.now }) }
         ensures its { IfOk result (λ r. IsOf r.1 r.0) }

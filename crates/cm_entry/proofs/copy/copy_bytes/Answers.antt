@@ -42,6 +42,6 @@ returns-clause-copied g c = record {
       (omega arith) c.to_le_bytes-2.ensures c.copy_from_slice-2.ensures.after;
 }
 
-pub returns-clause-behind : goal.returns-clause-behind
-returns-clause-behind g c =
+pub returns-clause-rest : goal.returns-clause-rest
+returns-clause-rest g c =
     rest_last c.loop-i.out c.copy_from_slice-2.new.self c.to_le_bytes-2.result (8 * (c.args.span.len / 8)) (c.args.span.len % 8) c.args.span.len c.in_ok-last.last (omega arith) (omega arith) (omega arith) c.to_le_bytes-2.ensures c.copy_from_slice-2.ensures.after ∙ c.loop-i.invariant.behind

@@ -14,8 +14,8 @@ returns-in_err-span-clause-loads g c =
     counted_err g.M.Mem.seen g.M.Mem.same_rest _ c.value_span.new.mem c.from_residual.result c.from_residual.ensures.0
     (loads_once_err g.M.Mem.seen g.M.Mem.same_rest _ c.value_span.new.mem _ c.from_residual.result c.from_residual.ensures.0 c.in_err-span.ensures.loads) _
 
-pub returns-in_err-span-clause-behind : goal.returns-in_err-span-clause-behind
-returns-in_err-span-clause-behind g c = keeps_rest_err 4096 c.args.out.now _ c.from_residual.result c.from_residual.ensures.0 refl
+pub returns-in_err-span-clause-rest : goal.returns-in_err-span-clause-rest
+returns-in_err-span-clause-rest g c = keeps_rest_err 4096 c.args.out.now _ c.from_residual.result c.from_residual.ensures.0 refl
 
 pub returns-in_err-copy_bytes-clause-loads : goal.returns-in_err-copy_bytes-clause-loads
 returns-in_err-copy_bytes-clause-loads g c =
@@ -23,10 +23,10 @@ returns-in_err-copy_bytes-clause-loads g c =
     (loads_then_err g.M.Mem.seen g.M.Mem.same_rest _ c.value_span.new.mem c.copy_bytes.new.mem _ c.from_residual-in_err-copy_bytes.result c.from_residual-in_err-copy_bytes.ensures.0 (g.met.M.Mem.rest_transitive _ _ _)
     (done_by g.M.Mem.seen g.M.Mem.same_rest Reads IsAsBefore _ _ _ c.in_ok-span.ensures.loads.call) c.in_err-copy_bytes.ensures.copied.counted.loads) _
 
-pub returns-in_err-copy_bytes-clause-behind : goal.returns-in_err-copy_bytes-clause-behind
-returns-in_err-copy_bytes-clause-behind g c =
+pub returns-in_err-copy_bytes-clause-rest : goal.returns-in_err-copy_bytes-clause-rest
+returns-in_err-copy_bytes-clause-rest g c =
     keeps_rest_err 4096 c.args.out.now c.copy_bytes.new.out c.from_residual-in_err-copy_bytes.result c.from_residual-in_err-copy_bytes.ensures.0
-    (rest_behind c.args.out.now c.copy_bytes.new.out c.in_ok-span.span.len 4096 c.in_ok-span.ensures.span.within_limit c.copy_bytes.ensures.behind)
+    (rest_behind c.args.out.now c.copy_bytes.new.out c.in_ok-span.span.len 4096 c.in_ok-span.ensures.span.within_limit c.copy_bytes.ensures.rest)
 
 pub returns-clause-loads : goal.returns-clause-loads
 returns-clause-loads g c =

@@ -26,4 +26,4 @@ returns-clause-each c = λ map is image.
     one-image c.of-map.result map fits is (sym made ∙ image)
 
 pub of-map-requires : goal.of-map-requires
-of-map-requires c = omega (arith, length-drop 64 c.args.bytes.now, c.in_ok-geo.ensures.2, c.in_ok-words.ensures.len, c.in_ok-extend_words.ensures.many)
+of-map-requires c = omega (arith, length-drop 64 c.args.bytes.now, c.in_ok-geo.ensures.2, c.in_ok-words.ensures.len, c.in_ok-extend_words.ensures.count)

@@ -1,6 +1,6 @@
 use Rattle.std.proofs.Common.{◌≡◌, ◌+◌, ◌∙◌, ℕ, List, Option, ap, drop, subst, arith, rules}
-use Rattle.cm_image.specs.Files.{ReadsFront, bytes_from}
-use Rattle.cm_image.proofs.Reading.{bytes_from-more, front-more}
+use Rattle.cm_image.specs.Files.{ReadsPrefix, bytes_from}
+use Rattle.cm_image.proofs.Reading.{bytes_from-more, prefix-more}
 use Rattle.cm_image.proofs.stored.read_piece.Goals as goal
 
 pub loop-at-preserved : goal.loop-at-preserved
@@ -16,10 +16,10 @@ loop-at-preserved g c =
       later = omega (arith, read.cause.later, kept.later);
       told = λ tells. read.told (kept.told tells);
       same = λ tells name. read.files (kept.told tells) name ∙ kept.same tells name;
-      front = λ tells.
+      prefix = λ tells.
           let place : bytes_from (g.V.Vault.files c.loop-at.vault c.args.name.now) (c.args.from + at) ≡ drop at (bytes_from file c.args.from) =
           ap (λ (f : Option (List ℕ)). bytes_from f (c.args.from + at)) (kept.same tells c.args.name.now) ∙ bytes_from-more file c.args.from at in
-          let more : ReadsFront (drop at (bytes_from file c.args.from)) count part =
-          subst (λ (bytes : List ℕ). ReadsFront bytes count part) place (read.bytes (kept.told tells)) in
-          front-more (bytes_from file c.args.from) c.loop-at.piece part at count kept.within read.bound.0 (kept.front tells) more;
+          let more : ReadsPrefix (drop at (bytes_from file c.args.from)) count part =
+          subst (λ (bytes : List ℕ). ReadsPrefix bytes count part) place (read.bytes (kept.told tells)) in
+          prefix-more (bytes_from file c.args.from) c.loop-at.piece part at count kept.within read.bound.0 (kept.prefix tells) more;
     }

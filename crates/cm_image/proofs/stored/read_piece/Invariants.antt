@@ -1,6 +1,6 @@
 use Rattle.std.proofs.Common.{◌≤◌, ◌-◌, length}
 use Rattle.cm_image.specs.Files.{SameFiles, bytes_from}
-use Rattle.cm_image.proofs.Reading.{IsFront}
+use Rattle.cm_image.proofs.Reading.{IsPrefix}
 use Rattle.cm_image.proofs.stored.read_piece.Given as goal
 
 abbrev pub invariant-loop-at : goal.invariant-loop-at
@@ -9,7 +9,7 @@ invariant-loop-at g l = record {
   later : g.V.Vault.faults l.fn.vault ≤ g.V.Vault.faults l.vault;
   told : g.V.Vault.tells l.fn.vault → g.V.Vault.tells l.vault;
   same : g.V.Vault.tells l.fn.vault → SameFiles (g.V.Vault.files l.fn.vault) (g.V.Vault.files l.vault);
-  front : g.V.Vault.tells l.fn.vault → IsFront (bytes_from (g.V.Vault.files l.fn.vault l.name) l.from) l.at l.piece;
+  prefix : g.V.Vault.tells l.fn.vault → IsPrefix (bytes_from (g.V.Vault.files l.fn.vault l.name) l.from) l.at l.piece;
 }
 
 abbrev pub decreases-loop-at : goal.decreases-loop-at

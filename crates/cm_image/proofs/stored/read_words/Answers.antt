@@ -33,7 +33,7 @@ pub loop-piece-smaller : goal.loop-piece-smaller
 loop-piece-smaller g c =
     let long : length c.read_piece.new.piece ≡ 8 * c.min-more.result =
     omega (arith, c.read_piece.auto.piece, length-take (8 * c.min-more.result) c.loop-piece.piece, c.min-more.array_long, c.min-more.ensures) in
-    omega (arith, long, c.in_ok-extend_words.ensures.many, c.len-at.ensures, c.min-more.ensures)
+    omega (arith, long, c.in_ok-extend_words.ensures.count, c.len-at.ensures, c.min-more.ensures)
 
 pub loop-piece-preserved : goal.loop-piece-preserved
 loop-piece-preserved g c =
@@ -44,12 +44,12 @@ loop-piece-preserved g c =
     let long : length c.read_piece.new.piece ≡ 8 * c.min-more.result =
     omega (arith, c.read_piece.auto.piece, length-take (8 * c.min-more.result) c.loop-piece.piece, c.min-more.array_long, c.min-more.ensures) in
     record {
-      within = omega (arith, long, c.in_ok-extend_words.ensures.many, c.len-at.ensures, c.min-more.ensures, kept.within);
+      within = omega (arith, long, c.in_ok-extend_words.ensures.count, c.len-at.ensures, c.min-more.ensures, kept.within);
       later = omega (arith, read.later, kept.later);
       told = λ tells. read.told (kept.told tells);
       same = λ tells name. read.files (kept.told tells) name ∙ kept.same tells name;
       words = λ tells. c.in_ok-extend_words.ensures.bytes
           ∙ words-more _ _ c.len-at.result (vec_len c.extend_words.new.words) part _ _ (kept.same tells c.args.name.now)
           (kept.words tells ∙ ap (λ (n : ℕ). take (8 * n) bytes) (sym c.len-at.ensures)) (read.piece (kept.told tells))
-          (omega (arith, long, c.read_piece.auto.piece, c.in_ok-extend_words.ensures.many, c.len-at.ensures));
+          (omega (arith, long, c.read_piece.auto.piece, c.in_ok-extend_words.ensures.count, c.len-at.ensures));
     }

@@ -1,5 +1,4 @@
 use Rattle.std.proofs.Common.{arith}
-use Rattle.std.proofs.lemmas.Grind.{common_steps}
 use Rattle.cm_words.proofs.CallSequences.{stores_once_as}
 use Rattle.cm_lookup.specs.Tiers.{slot_word}
 use Rattle.cm_lookup.proofs.slots.put_slot.Goals as goal

@@ -1,4 +1,4 @@
-use Rattle.std.proofs.Common.{ap, ◌∙◌, ◌+◌, ◌*◌, ◌<◌, arith, [], ◌∷◌}
+use Rattle.std.proofs.Common.{ap, ◌∙◌, ◌+◌, ◌*◌, arith, [], ◌∷◌}
 use Rattle.cm_geo.proofs.AddressOrder.{segment_limit}
 use Rattle.cm_words.specs.Memory.{Setting}
 use Rattle.cm_words.specs.Effects.{IsAsBefore, Reads}

@@ -4,6 +4,6 @@ use Rattle.cm_yard.proofs.seats.count_owned.Given as goal
 
 abbrev pub invariant-loop-at : goal.invariant-loop-at
 invariant-loop-at l = record {
-  few : l.count ≤ l.at;
+  within : l.count ≤ l.at;
   all : l.count + count_by (λ word. nat_lt 0 word) (drop l.at (slots_items l.closed.words)) ≡ count_by (λ word. nat_lt 0 word) (drop l.from (slots_items l.closed.words));
 }

@@ -18,7 +18,7 @@ returns-clause-sum c =
     let words = slots_items c.close_with-closed.result.words in
     let ended = closes key c.args.root.seat.id c.args.root.seat.me.0 _ _ c.requires.root c.requires.joined c.close_with-closed.ensures.values.2 in
     let behind = λ (n : ℕ). count_by (λ word. nat_lt 0 word) (drop n words) in
-    c.count_owned-count.ensures ∙ (ap behind c.args.self.segments_are ∙ owned_sum key.geo key.first words c.args.root.seat.me.0 c.args.self.whole ended.many ended.claims)
+    c.count_owned-count.ensures ∙ (ap behind c.args.self.segments_are ∙ owned_sum key.geo key.first words c.args.root.seat.me.0 c.args.self.whole ended.length_is ended.claims)
 
 pub returns-clause-all : goal.returns-clause-all
 returns-clause-all c = λ found.
@@ -26,4 +26,4 @@ returns-clause-all c = λ found.
     let words = slots_items c.close_with-closed.result.words in
     let ended = closes key c.args.root.seat.id c.args.root.seat.me.0 _ _ c.requires.root c.requires.joined c.close_with-closed.ensures.values.2 in
     let behind = λ (n : ℕ). count_by (λ word. nat_lt 0 word) (drop n words) in
-    c.count_owned-count.ensures ∙ (ap behind c.args.self.segments_are ∙ owned_all key.geo key.first words c.args.root.seat.me.0 c.args.self.whole ended.many ended.claims found)
+    c.count_owned-count.ensures ∙ (ap behind c.args.self.segments_are ∙ owned_all key.geo key.first words c.args.root.seat.me.0 c.args.self.whole ended.length_is ended.claims found)

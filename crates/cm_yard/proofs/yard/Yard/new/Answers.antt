@@ -6,19 +6,19 @@ use Rattle.cm_yard.proofs.Seating.{opens}
 use Rattle.cm_yard.proofs.yard.Yard.new.Goals as goal
 
 pub returns-in_err-words-clause-owned : goal.returns-in_err-words-clause-owned
-returns-in_err-words-clause-owned c = first_owned c.args.geo.now c.args.linked.now c.requires.many c.requires.within_limit
+returns-in_err-words-clause-owned c = first_owned c.args.geo.now c.args.linked.now c.requires.length_is c.requires.within_limit
 
 pub returns-in_err-table-clause-owned : goal.returns-in_err-table-clause-owned
-returns-in_err-table-clause-owned c = first_owned c.args.geo.now c.args.linked.now c.requires.many c.requires.within_limit
+returns-in_err-table-clause-owned c = first_owned c.args.geo.now c.args.linked.now c.requires.length_is c.requires.within_limit
 
 pub returns-clause-owned : goal.returns-clause-owned
-returns-clause-owned c = first_owned c.args.geo.now c.args.linked.now c.requires.many c.requires.within_limit
+returns-clause-owned c = first_owned c.args.geo.now c.args.linked.now c.requires.length_is c.requires.within_limit
 
 pub of_words-requires : goal.of_words-requires
 of_words-requires c =
     let first = c.of.ensures ∙ c.in_ok-words.ensures in
     let same = c.as_slice.ensures.value ∙ sym c.of.ensures in
-    rw same (opens (record { geo = c.args.geo.now; first = c.of.result }) c.args.linked.now c.requires.many c.requires.within_limit first)
+    rw same (opens (record { geo = c.args.geo.now; first = c.of.result }) c.args.linked.now c.requires.length_is c.requires.within_limit first)
 
 pub invariant_of-yard : goal.invariant_of-yard
 invariant_of-yard c =
@@ -26,7 +26,7 @@ invariant_of-yard c =
     let made = c.in_ok-table.ensures in
     let key : c.in_ok-table.table.shared.key ≡ record { geo = geo; first = c.of.result } = made.5 in
     let first = c.of.ensures ∙ c.in_ok-words.ensures in
-    let whole = ap length first ∙ first_length geo c.args.linked.now c.requires.many c.requires.within_limit in
+    let whole = ap length first ∙ first_length geo c.args.linked.now c.requires.length_is c.requires.within_limit in
     record {
       segments_are = c.segments.ensures ∙ ap (λ (k : Key). k.geo.segments) (sym key);
       extra_is = c.extra.ensures ∙ ap (λ (k : Key). k.geo.extra) (sym key);
