@@ -68,7 +68,7 @@ looked_before old now geo place slot hole steps words before at word here fitted
 pub shifted_stays : (old now : MemSeen) (geo : Geo) (place slot hole steps at word : ℕ) → IsHere old geo place slot → Shifted old now geo place slot hole steps → steps < 2 * geo.chunks
     → at ≡ slot_at geo place (slot_behind (2 * geo.chunks) slot steps) → Knows now at word → word ≢ 0 → Stays (ring_of geo) slot hole steps word → Shifted old now geo place slot hole (steps + 1)
 shifted_stays old now geo place slot hole steps at word here so_far below at_is knows nonzero stay = record {
-  kept = so_far.kept;
+  keeps = so_far.keeps;
   noted = so_far.noted;
   came = λ words fits.
       let far = so_far.came words fits in
@@ -98,7 +98,7 @@ may_move old now geo place slot hole steps at left word here may so_far below at
     let far = so_far.came words fits in
     let is = looked_before old now geo place slot hole steps words far.0 at word here far.1.fits far.1.relates below at_is fits knows in
     allowed_as now.setting old.setting now.plan old.plan (origin now words) (origin old far.0) words (after_stores far.0 (at_slots geo place far.1.relates.made)) left (slot_at geo place (slot_behind (2 * geo.chunks) slot hole)) word (word_behind (ring_of geo) (slot_words geo far.0 place) slot steps)
-    so_far.kept.setting so_far.kept.plan far.1.origin (sym far.1.relates.by.leads) left_is (sym is)
+    so_far.keeps.setting so_far.keeps.plan far.1.origin (sym far.1.relates.by.leads) left_is (sym is)
     (may far.0 far.1.fits far.1.relates.made (slot_behind (2 * geo.chunks) slot hole) (word_behind (ring_of geo) (slot_words geo far.0 place) slot steps)
     (moved hole steps far.1.relates.made far.1.relates.shift below (subst (λ (w : ℕ). w ≢ 0) (sym is) nonzero) (subst (λ (w : ℕ). Stays (ring_of geo) slot hole steps w → ⊥) (sym is) fuse)))
 
@@ -109,7 +109,7 @@ may_end old now geo place slot hole steps at left word here may so_far below at_
     let far = so_far.came words fits in
     let is = looked_before old now geo place slot hole steps words far.0 at word here far.1.fits far.1.relates below at_is fits knows in
     allowed_as now.setting old.setting now.plan old.plan (origin now words) (origin old far.0) words (after_stores far.0 (at_slots geo place far.1.relates.made)) left (slot_at geo place (slot_behind (2 * geo.chunks) slot hole)) 0 0
-    so_far.kept.setting so_far.kept.plan far.1.origin (sym far.1.relates.by.leads) left_is refl
+    so_far.keeps.setting so_far.keeps.plan far.1.origin (sym far.1.relates.by.leads) left_is refl
     (may far.0 far.1.fits far.1.relates.made (slot_behind (2 * geo.chunks) slot hole) 0 (emptied hole steps far.1.relates.made far.1.relates.shift below (is ∙ none)))
 
 -- one more store of the shift
@@ -125,7 +125,7 @@ pub shifted_moves : (old a b : MemSeen) (geo : Geo) (place slot hole steps at le
     → at ≡ slot_at geo place (slot_behind (2 * geo.chunks) slot steps) → left ≡ slot_at geo place (slot_behind (2 * geo.chunks) slot hole) → Knows a at word → word ≢ 0 → (Stays (ring_of geo) slot hole steps word → ⊥)
     → Writes a b (store_at left word ∷ []) → Shifted old b geo place slot steps (steps + 1)
 shifted_moves old a b geo place slot hole steps at left word here so_far below at_is left_is knows nonzero fuse writes = record {
-  kept = keeps_transitive old a b so_far.kept writes.kept;
+  keeps = keeps_transitive old a b so_far.keeps writes.keeps;
   noted = λ k h. writes.noted k (so_far.noted k h);
   came = λ words fits.
       let mid = writes.came words fits in
@@ -148,7 +148,7 @@ shifted_moves old a b geo place slot hole steps at left word here so_far below a
 pub removes_end : (old a b : MemSeen) (geo : Geo) (place slot hole steps at left word : ℕ) → IsHere old geo place slot → Shifted old a geo place slot hole steps → steps < 2 * geo.chunks
     → at ≡ slot_at geo place (slot_behind (2 * geo.chunks) slot steps) → left ≡ slot_at geo place (slot_behind (2 * geo.chunks) slot hole) → Knows a at word → word ≡ 0 → Writes a b (store_at left 0 ∷ []) → Removes old b geo place slot
 removes_end old a b geo place slot hole steps at left word here so_far below at_is left_is knows none writes = record {
-  kept = keeps_transitive old a b so_far.kept writes.kept;
+  keeps = keeps_transitive old a b so_far.keeps writes.keeps;
   noted = λ k h. writes.noted k (so_far.noted k h);
   came = λ words fits.
       let mid = writes.came words fits in

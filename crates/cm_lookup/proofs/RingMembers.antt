@@ -2,14 +2,11 @@
 use Rattle.std.proofs.Common.{◌≡◌, ◌≢◌, ℕ, ◌<◌, List, [], ◌∷◌, length, get_or, set, sym, subst, ap, ◌∙◌, arith, zero, suc, inl, inr, Contains, length-set, get_or-set_same, get_or-set_other}
 use Rattle.std.proofs.lemmas.Bool.{cases_eq}
 use Rattle.std.proofs.lemmas.List.Sorted.{Contains-permutation, IsPermutation-sym}
+use Rattle.cm_plain.proofs.ListElements.{contains_more}
 use Rattle.cm_lookup.specs.Rings.{Ring, ring_slot, word_behind, occupied_words}
 use Rattle.cm_lookup.proofs.RingArithmetic.{ring_slot_below, ring_slot_none, ring_slot_apart}
 use Rattle.cm_lookup.proofs.OccupiedWords.{taken_empty, taken_more, taken_none}
 use Rattle.cm_lookup.proofs.Shifting.{IsTable, Shifting}
-
--- behind one more
-contains_more : (x word : ℕ) (words : List ℕ) → Contains words word → Contains (x ∷ words) word
-contains_more x word words has = (suc has.0, omega arith, has.2)
 
 -- a slot's word is among the words
 pub word_taken : (slots : List ℕ) (i word : ℕ) → i < length slots → get_or slots i 0 ≡ word → word ≢ 0 → Contains (occupied_words slots) word
@@ -19,7 +16,7 @@ word_taken (x ∷ slots) (suc i) word below is nonzero =
     let later = word_taken slots i word (omega arith) is nonzero in
     elim (cases_eq x 0) [
       | inl empty ↦ subst (λ (ws : List ℕ). Contains ws word) (sym (taken_empty x slots empty)) later
-      | inr full ↦ subst (λ (ws : List ℕ). Contains ws word) (sym (taken_more x slots full)) (contains_more x word (occupied_words slots) later)
+      | inr full ↦ subst (λ (ws : List ℕ). Contains ws word) (sym (taken_more x slots full)) (contains_more word x (occupied_words slots) later)
     ]
 
 -- a word stands in a slot

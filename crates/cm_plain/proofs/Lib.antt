@@ -23,3 +23,4 @@ pub mod OneState
 pub mod Padding
 pub mod EntryWords
 pub mod RestingTorn
+pub mod ZeroWords

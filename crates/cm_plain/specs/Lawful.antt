@@ -98,7 +98,7 @@ pub record LawfulApart (geo : Geo) (segment : ℕ) (words : List ℕ) (state : S
 pub record Lawful (geo : Geo) (segment : ℕ) (words : List ℕ) (number : ℕ) (state : State) : Type 0 where
   pub lock : word_at words 0 ≡ 0
   pub number_is : word_at words 1 ≡ 2 * number
-  pub number_few : number ≤ last_number
+  pub number_within_limit : number ≤ last_number
   pub apart : LawfulApart geo segment words state
 
 -- the words of a segment in use represent a state while no change is under way

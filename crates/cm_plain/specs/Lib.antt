@@ -13,4 +13,5 @@ pub mod Slots
 pub mod Readings
 pub mod FoundChains
 pub mod Lawful
+pub mod ZeroWords
 pub mod Torn

@@ -1,5 +1,5 @@
 -- Words that meet the premises of the laws (own).
-use Rattle.std.specs.Prelude.{ℕ, ◌≡◌, ◌≢◌, ◌*◌, ◌<◌, List, length, replicate, Some}
+use Rattle.std.specs.Prelude.{ℕ, ◌≡◌, ◌≢◌, ◌*◌, ◌<◌, List, length, Some}
 use Rattle.cm_geo.specs.declared.geo.Geo.{Geo}
 use Rattle.cm_geo.specs.Addresses.{tier_at, words_in_segment}
 use Rattle.cm_geo.specs.Hash.{segment_of_key}
@@ -13,6 +13,7 @@ use Rattle.cm_plain.specs.Slots.{Slot, slot_for, slot_in, word_at}
 use Rattle.cm_plain.specs.Readings.{Stands}
 use Rattle.cm_plain.specs.FoundChains.{IsZero, KeepsAllowance}
 use Rattle.cm_plain.specs.Lawful.{LawfulApart, Resting}
+use Rattle.cm_plain.specs.ZeroWords.{zeros}
 use Rattle.cm_recover.specs.Laws.{IsTorn}
 
 -- words that rest for a state are torn for each change that is planned for it
@@ -40,11 +41,7 @@ FirstWrittenIsTorn geo =
     (words key value : List ℕ) → Fits geo (length key) (length value) → IsFirstWritten geo words key value
     → IsTorn geo (segment_of_key geo key) words one_tier (Put key value) (planned_change geo one_tier (Put key value) key)
 
--- the words of a map in which nothing was written
-abbrev pub zeros : Geo → ℕ → List ℕ
-zeros geo segment = replicate (words_in_segment geo) 0
-
--- they keep the allowance, represent one empty tier in each segment, and are torn for each put of a key that may be stored there
+-- the words of a map in which nothing was written keep the allowance, represent one empty tier in each segment, and are torn for each put of a key that may be stored there
 pub record ZerosAreTorn (geo : Geo) : Type 0 where
   pub allowance : KeepsAllowance geo (zeros geo)
   pub lawful_apart : (segment : ℕ) → LawfulApart geo segment (zeros geo segment) one_tier

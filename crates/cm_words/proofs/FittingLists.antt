@@ -62,7 +62,7 @@ noted_loaded old now at word notes k h = elim (cases_eq k at) [
 
 pub reads_load : (old now : MemSeen) (at word : ℕ) → at < words_in_segment now.setting.geo → Keeps old now → NotesLoad old now at word → now.meter.stores ≡ old.meter.stores → Reads old now
 reads_load old now at word in_range kept notes no_store = record {
-  kept = kept;
+  keeps = kept;
   fits = fits_loaded old now at word in_range kept notes;
   origin = λ words fits. origin_by now old words words refl (λ k h. first_loaded old now at word notes words (loaded_here old now at word in_range notes words fits) k);
   noted = noted_loaded old now at word notes;
@@ -95,7 +95,7 @@ knows_number old now word in_range notes even within_limit = record {
 -- the same notes
 pub reads_same : (old now : MemSeen) → Keeps old now → ((at : ℕ) → now.noted at ≡ old.noted at) → now.meter.stores ≡ old.meter.stores → Reads old now
 reads_same old now kept same no_store = record {
-  kept = kept;
+  keeps = kept;
   fits = λ words fits. record { are = are_in old now words kept.setting fits.are; present = λ k note h e. fits.present k note h (same k ∙ e) };
   origin = λ words fits. origin_by now old words words refl (λ k h. ap (λ n. first_or n (get_or words k 0)) (same k));
   noted = λ k h. rw (same k) h;
@@ -113,7 +113,7 @@ on_err (Err error) p = p
 -- loads, and loads after them
 pub reads_transitive : (a b c : MemSeen) → Reads a b → Reads b c → Reads a c
 reads_transitive a b c p q = record {
-  kept = keeps_transitive a b c p.kept q.kept;
+  keeps = keeps_transitive a b c p.keeps q.keeps;
   fits = λ words fits. p.fits words (q.fits words fits);
   origin = λ words fits. q.origin words fits ∙ p.origin words (q.fits words fits);
   noted = λ k h. q.noted k (p.noted k h);
@@ -127,7 +127,7 @@ reads_reflexive m = reads_same m m (record { setting = refl; plan = refl }) (λ 
 pub writes_store : (old now : MemSeen) (at word found : ℕ) → at < words_in_segment now.setting.geo → Keeps old now → NotesStore old now at word found → now.meter.stores ≡ old.meter.stores + 1
     → Writes old now (store_at at word ∷ [])
 writes_store old now at word found in_range kept notes counted = record {
-  kept = kept;
+  keeps = kept;
   came = λ words fits.
       let inside : at < length words = rw fits.are.length_is in_range in
       let here : get_or words at 0 ≡ word = fits.present at (record { present = word; first = first_or (old.noted at) found }) inside notes.here in (

@@ -1,3 +1,4 @@
+pub mod ListSums
 pub mod MeterCounts
 pub mod Notes
 pub mod FittingLists

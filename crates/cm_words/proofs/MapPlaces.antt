@@ -1,6 +1,6 @@
 -- Where a segment's words stand in the map.
-use Rattle.std.proofs.Common.{◌≡◌, ℕ, ◌+◌, ◌*◌, ◌<◌, ◌≤◌, ◌^◌, List, take, drop, slice_set, arith, refl}
-use Rattle.std.proofs.lemmas.Grind.{common_steps}
+use Rattle.std.proofs.Common.{◌≡◌, ℕ, ◌+◌, ◌*◌, ◌<◌, ◌≤◌, ◌^◌, List, slice_set, arith, refl}
+use Rattle.std.proofs.lemmas.List.{drop-set-lt, take-set-le}
 use Rattle.cm_geo.specs.declared.geo.Geo.{Geo}
 use Rattle.cm_geo.specs.Addresses.{words_in_map, words_in_segment}
 use Rattle.cm_geo.proofs.Ranges.{map_limit}
@@ -22,14 +22,11 @@ pub number_inside : (geo : Geo) → 1 < words_in_segment geo
 unfolding words_in_segment
 number_inside geo = omega arith
 
-take_same : (words : List ℕ) (at word n : ℕ) → n ≤ at → take n (slice_set words at word) ≡ take n words
-take_same words at word n high = grind (arith, common_steps)
-
-drop_same : (words : List ℕ) (at word n : ℕ) → at < n → drop n (slice_set words at word) ≡ drop n words
-drop_same words at word n low = grind (arith, common_steps)
-
 -- a store in a segment leaves the rest of the map
 pub rest_stored : (map : MapWords) (segment start at word : ℕ) → start ≡ words_before map.geo segment → at < words_in_segment map.geo
     → rest_of (record { geo = map.geo; words = slice_set map.words (start + at) word }) segment ≡ rest_of map segment
 rest_stored map segment start at word e inside =
-    rw (take_same map.words (start + at) word (words_before map.geo segment) (omega (arith, e)), drop_same map.words (start + at) word (words_before map.geo segment + words_in_segment map.geo) (omega (arith, e, inside))) refl
+    rw (
+      take-set-le (words_before map.geo segment) map.words (start + at) word (omega (arith, e)),
+      drop-set-lt (words_before map.geo segment + words_in_segment map.geo) map.words (start + at) word (omega (arith, e, inside)),
+    ) refl

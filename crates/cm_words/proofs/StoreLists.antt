@@ -72,7 +72,7 @@ may_prefix m ss ts may words fits = allows_prefix m.setting m.plan (origin m wor
 pub may_suffix : (old now : MemSeen) (ss ts : List WordStore) → MayStoreAll old (ss ++ ts) → Writes old now ss → MayStoreAll now ts
 may_suffix old now ss ts may writes words fits =
     let came = writes.came words fits in
-    allows_at old now (origin old came.0) (origin now words) (after_stores came.0 ss) words ts writes.kept came.1.origin came.1.relates.leads
+    allows_at old now (origin old came.0) (origin now words) (after_stores came.0 ss) words ts writes.keeps came.1.origin came.1.relates.leads
     (allows_suffix old.setting old.plan (origin old came.0) came.0 ss ts (may came.0 came.1.fits))
 
 -- the next one of stores that may be made may be made
@@ -80,7 +80,7 @@ pub may_store_after : (old now : MemSeen) (ss ts : List WordStore) (at word : �
 unfolding origin
 may_store_after old now ss ts at word may writes words fits =
     let came = writes.came words fits in
-    rw (writes.kept.setting, writes.kept.plan)
+    rw (writes.keeps.setting, writes.keeps.plan)
     (allowed_at old.setting old.plan (origin now words) (origin old came.0) (after_stores came.0 ss) words at word came.1.origin came.1.relates.leads
     (allows_next old.setting old.plan (origin old came.0) came.0 ss ts at word (may came.0 came.1.fits)))
 
@@ -127,7 +127,7 @@ remade at make words = store_at at (make (word_at words at)) ∷ []
 pub may_store_remade : (a b : MemSeen) (at found word : ℕ) (make : ℕ → ℕ) → MayStoreEach a (remade at make) → Reads a b → 0 < at → Knows b at found → word ≡ make found → MayStore b at word
 may_store_remade a b at found word make may reads inner knows is words fits =
     let made : word ≡ make (word_at words at) = is ∙ ap make (sym (knows.here (λ _. inner) words fits)) in
-    let all = allows_at a b (origin a words) (origin b words) words words (remade at make words) reads.kept (reads.origin words fits) refl (may words (reads.fits words fits)) in
+    let all = allows_at a b (origin a words) (origin b words) words words (remade at make words) reads.keeps (reads.origin words fits) refl (may words (reads.fits words fits)) in
     subst (λ (w : ℕ). IsAllowed b.setting b.plan (origin b words) words (slice_set words at w)) (sym made) all.0
 
 pub writes_remade : (a b c : MemSeen) (at found word : ℕ) (make : ℕ → ℕ) → Reads a b → 0 < at → Knows b at found → word ≡ make found → Writes b c (store_at at word ∷ []) → WritesEach a c (remade at make)
@@ -155,7 +155,7 @@ may_store_then a b all first then joined may writes words fits =
     let rest : AllowsAll a.setting a.plan (origin a came.0) (after_stores came.0 (first came.0)) (then (after_stores came.0 (first came.0))) =
     allows_suffix a.setting a.plan (origin a came.0) came.0 (first came.0) (then (after_stores came.0 (first came.0)))
     (subst (λ (stores : List WordStore). AllowsAll a.setting a.plan (origin a came.0) came.0 stores) (joined came.0) (may came.0 came.1.fits)) in
-    allows_at a b (origin a came.0) (origin b words) words words (then words) writes.kept came.1.origin refl
+    allows_at a b (origin a came.0) (origin b words) words words (then words) writes.keeps came.1.origin refl
     (subst (λ (w : List ℕ). AllowsAll a.setting a.plan (origin a came.0) w (then w)) came.1.relates.leads rest)
 
 pub writes_then : (a b c : MemSeen) (all first then : List ℕ → List WordStore) → AreJoined all first then → WritesEach a b first → WritesEach b c then → WritesEach a c all

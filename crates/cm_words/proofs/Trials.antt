@@ -15,13 +15,14 @@ use Rattle.cm_plain.specs.FoundChains.{FoundChain, chain_of, chain_from}
 use Rattle.cm_plain.specs.Lawful.{Resting}
 use Rattle.cm_geo.proofs.AddressOrder.{tier_behind_head, tier_head_in_range}
 use Rattle.cm_plain.proofs.Placements.{placed_state}
+use Rattle.cm_plain.proofs.States.{same_state}
 use Rattle.cm_plain.proofs.OutsideHead.{resting_represents, torn_same}
 use Rattle.cm_words.specs.Memory.{FitsNotes, HasEvenNumber, IsAllowed, IsDone, IsPlanHere, MemSeen, Setting, StaysTorn, origin}
 use Rattle.cm_geo.specs.Addresses.{words_in_map, words_in_segment}
 use Rattle.cm_words.specs.Maps.{MapWords, number_word, words_before}
 use Rattle.cm_words.specs.Fuses.{FuseSeen}
 use Rattle.cm_words.specs.Plain.{new_plain}
-use Rattle.std.proofs.lemmas.List.{length-replicate}
+use Rattle.std.proofs.lemmas.List.{length-replicate, nil_from_length}
 use Rattle.std.proofs.lemmas.List.FromFn.{fill_by_all}
 use Rattle.cm_words.specs.Effects.{Begins, Reads}
 use Rattle.cm_words.specs.Stores.{MayStoreAll, WordStore, Writes, after_stores, store_at}
@@ -54,18 +55,11 @@ zeros_linked : (geo : Geo) (count : ℕ) → chain_of geo (replicate count 0) �
 unfolding chain_of
 zeros_linked geo count = zero_link geo count geo.tiers
 
-no_length : {X : Type 0} (xs : List X) → length xs ≡ 0 → xs ≡ []
-no_length [] e = refl
-no_length (x ∷ xs) e = absurd (omega (arith, e))
-
-same_state : (c c' : List ℕ) (e e' : List Placed) → c ≡ c' → e ≡ e' → ◌≡◌ {A = State} (record { chain = c; entries = e }) (record { chain = c'; entries = e' })
-same_state c c' e e' p q = rw (p, q) refl
-
 -- zeros rest for one empty tier at most
 pub zeros_rest : (geo : Geo) (segment count : ℕ) (state : State) → Resting geo segment (replicate count 0) state → state ≡ one_tier
 zeros_rest geo segment count state rests =
     let knows = resting_represents geo segment (replicate count 0) state rests in
-    same_state state.chain (0 ∷ []) state.entries [] (sym knows.chain ∙ ap (λ (l : FoundChain). l.places) (zeros_linked geo count)) (no_length state.entries (sym knows.count ∙ zero_word count 2))
+    same_state state one_tier (sym knows.chain ∙ ap (λ (l : FoundChain). l.places) (zeros_linked geo count)) (nil_from_length state.entries (sym knows.count ∙ zero_word count 2))
 
 mod_one : (n : ℕ) → n % 1 ≡ 0
 mod_one n = omega arith
@@ -90,7 +84,7 @@ plans_first_put geo is state =
 -- a change that began, and stores after that
 pub stores_under : (a b c : MemSeen) (change : Change) (stores : List WordStore) → Begins a b change → Writes b c stores → StoresUnder a c change stores
 stores_under a b c change stores begins writes = record {
-  plan = writes.kept.plan ∙ begins.plan;
+  plan = writes.keeps.plan ∙ begins.plan;
   came = λ words fits.
       let mid = writes.came words fits in
       let far = begins.came mid.0 mid.1.fits in
@@ -157,7 +151,7 @@ cut_fits guarded map fuse words are fits =
 pub cut_planned : (old m : MemSeen) (guarded : Bool) (map : MapWords) (fuse : FuseSeen) (change : Change) → old ≡ new_plain guarded map 0 fuse → AreCut map → Reads old m → IsPlanHere m change
 cut_planned old m guarded map fuse change e are read words state fits rests =
     let reads : Reads (new_plain guarded map 0 fuse) m = subst (λ (o : MemSeen). Reads o m) e read in
-    let rests_there : Resting map.geo 0 words state = subst (λ (s : Setting). Resting s.geo s.segment words state) reads.kept.setting rests in
+    let rests_there : Resting map.geo 0 words state = subst (λ (s : Setting). Resting s.geo s.segment words state) reads.keeps.setting rests in
     absurd (cut_rests map.geo 0 words state are.geo_is.tiers_is (cut_fits guarded map fuse words are (reads.fits words fits)) rests_there)
 
 -- the change number of cut words is even and not the last
@@ -182,7 +176,7 @@ cut_done old m begun guarded map fuse first change e are read begins words state
     let link : get_or came.0 (tier_at map.geo 0) 0 ≡ 9 = cut_fits guarded map fuse came.0 are (reads.fits came.0 came.1.fits) in
     let apart : tier_at map.geo 0 ≢ 1 = (let behind = tier_behind_head map.geo 0 in omega (arith, behind)) in
     let same : get_or words (tier_at map.geo 0) 0 ≡ 9 = rw (← came.1.next) (get_or-set_other came.0 1 (tier_at map.geo 0) (get_or came.0 1 0 + 1) 0 apart ∙ link) in
-    let setting = begins.setting ∙ reads.kept.setting in
+    let setting = begins.setting ∙ reads.keeps.setting in
     let rests : Resting map.geo 0 (origin begun words) state = subst (λ (s : Setting). Resting s.geo s.segment (origin begun words) state) setting under.rests in
     absurd (cut_rests map.geo 0 words state are.geo_is.tiers_is same (subst (λ (w : List ℕ). Resting map.geo 0 w state) (begins.origin words fits) rests))
 

@@ -28,7 +28,7 @@ came_by_stores old now change stores words state fresh writes fits u =
       before = came.0;
       fits = came.1.fits;
       leads = came.1.relates.leads;
-      rests = subst (λ (s : Setting). Resting s.geo s.segment came.0 state) writes.kept.setting
+      rests = subst (λ (s : Setting). Resting s.geo s.segment came.0 state) writes.keeps.setting
           (subst (λ (o : List ℕ). Resting now.setting.geo now.setting.segment o state) (came.1.origin ∙ fresh came.0 came.1.fits) u.rests);
     }
 

@@ -22,13 +22,13 @@ pub record CameFrom (old now : MemSeen) (Relates : List ℕ → List ℕ → Typ
 
 -- each list that fits now came from one that fitted before and is related to it so
 pub record Changes (old now : MemSeen) (Relates : List ℕ → List ℕ → Type 0) : Type 0 where
-  pub kept : Keeps old now
+  pub keeps : Keeps old now
   pub came : (words : List ℕ) → FitsNotes now words → (before : List ℕ) × CameFrom old now Relates before words
   pub noted : StaysNoted old now
 
 -- loads alone: each list that fits now fitted before, with the same origin, and no store was counted
 pub record Reads (old now : MemSeen) : Type 0 where
-  pub kept : Keeps old now
+  pub keeps : Keeps old now
   pub fits : (words : List ℕ) → FitsNotes now words → FitsNotes old words
   pub origin : (words : List ℕ) → FitsNotes now words → origin now words ≡ origin old words
   pub noted : StaysNoted old now

@@ -10,6 +10,7 @@ pub mod Memory
 pub mod Effects
 pub mod Stores
 pub mod Calls
+pub mod Peeks
 pub mod Counts
 pub mod PlanCopies
 pub mod Notes

@@ -8,6 +8,7 @@ mod fuse;
 mod laws;
 mod mem;
 mod meter;
+mod peek;
 mod plain;
 mod plan_copy;
 #[cfg(test)]
@@ -19,5 +20,6 @@ pub use fixed::FixedMem;
 pub use fuse::{Admit, Dead, EventKind, Fuse, KillFuse, Never};
 pub use laws::a_memory_tells_one_state;
 pub use mem::Mem;
+pub use peek::{FoundWord, Peek};
 pub use plain::PlainMem;
 pub use words::Words;

@@ -20,7 +20,7 @@ use Rattle.cm_yard.specs.Views.{with_claim, with_misses}
 use Rattle.cm_yard.specs.Words.{claim_at, words_in_yard}
 use Rattle.cm_yard.proofs.Frames.{claim_keeps, claims_frame, stops_frame}
 use Rattle.cm_yard.proofs.Numbering.{seats_frame}
-use Rattle.cm_yard.proofs.Totals.{all_at, one_if, one_if_other, one_if_same, sum_none, sum_set}
+use Rattle.cm_words.proofs.ListSums.{all_at, one_if, one_if_other, one_if_same, sum_none, sum_set}
 
 -- a claim word that is 0 counts for no owner
 pub owners_none : (word : ℕ) → word ≡ 0 → owners_of word ≡ 0

@@ -16,7 +16,7 @@ use Rattle.cm_yard.specs.Claims.{HasFoundAll}
 use Rattle.cm_yard.specs.Rule.{AreClaims, IsOwned, claims_of, owners_of}
 use Rattle.cm_yard.specs.Words.{claim_at, owned_in, words_in_yard}
 use Rattle.cm_yard.proofs.Claiming.{owners_few, owners_one}
-use Rattle.cm_yard.proofs.Totals.{at_inside, at_read, one_if, one_if_other, one_if_same}
+use Rattle.cm_words.proofs.ListSums.{at_inside, at_read, one_if, one_if_other, one_if_same}
 
 -- a sum over the numbers below n
 upto : (ℕ → ℕ) → ℕ → ℕ

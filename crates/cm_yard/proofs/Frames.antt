@@ -9,7 +9,7 @@ use Rattle.cm_yard.specs.declared.view.StopNumber.{StopNumber}
 use Rattle.cm_yard.specs.declared.view.View.{View}
 use Rattle.cm_yard.specs.Rule.{AreClaims, AreStops, IsFound, IsInForce, IsOwned, IsRaised, KnowsClaims, KnowsStops, claims_of, owners_of}
 use Rattle.cm_yard.specs.Words.{claim_at, stop_at}
-use Rattle.cm_yard.proofs.Totals.{all_at, any_set, sum_same}
+use Rattle.cm_words.proofs.ListSums.{all_at, any_set, sum_same}
 
 -- these words have the same claim words
 abbrev pub SameClaims : Geo → List ℕ → List ℕ → Type 0

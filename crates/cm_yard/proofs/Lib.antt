@@ -1,4 +1,3 @@
-pub mod Totals
 pub mod Frames
 pub mod Numbering
 pub mod Claiming

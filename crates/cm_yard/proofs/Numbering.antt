@@ -10,37 +10,7 @@ use Rattle.cm_yard.specs.declared.view.View.{View}
 use Rattle.cm_yard.specs.Rule.{AreSeats, IsSeat, count_of, made_count, held_count, own_count}
 use Rattle.cm_yard.specs.Views.{child, head_or_root, spent_view, with_due, with_joined, without_due}
 use Rattle.cm_yard.specs.Ends.{AllJoined}
-use Rattle.cm_yard.proofs.Totals.{all_at, one_if, one_if_other, one_if_same, sum_alone, sum_same, sum_set, sum_two}
-
--- how often a number is in a list with one more in front
-count_cons : (n m : ℕ) (ns : List ℕ) → count_of n (m ∷ ns) ≡ one_if m n + count_of n ns
-count_cons n m ns = sum_by-cons (λ (k : ℕ). one_if k n) m ns
-
--- in front of which it stands itself
-count_here : (n : ℕ) (ns : List ℕ) → count_of n (n ∷ ns) ≡ 1 + count_of n ns
-count_here n ns = let c = count_cons n n ns in let i = one_if_same n n refl in omega arith
-
--- in front of which another one stands
-count_there : (n m : ℕ) (ns : List ℕ) → m ≢ n → count_of n (m ∷ ns) ≡ count_of n ns
-count_there n m ns ne = let c = count_cons n m ns in let i = one_if_other m n ne in omega arith
-
--- a number that is counted is in the list
-counted_there : (n : ℕ) (ns : List ℕ) → 0 < count_of n ns → Contains ns n
-counted_there n [] h = absurd (omega arith)
-counted_there n (m ∷ ns) h = dite (ℕ_discrete m n)
-    (λ e. (0, omega arith, e))
-    (λ ne. let c = count_there n m ns ne in let r = counted_there n ns (omega arith) in (suc r.0, (let l = r.1 in omega arith), r.2))
-
--- a number in the list is counted
-there_counted : (n : ℕ) (ns : List ℕ) → Contains ns n → 0 < count_of n ns
-there_counted n [] h = let l = h.1 in absurd (omega arith)
-there_counted n (m ∷ ns) h = dite (ℕ_discrete m n)
-    (λ e. let c = count_cons n m ns in let i = one_if_same m n e in omega arith)
-    (λ ne. let c = count_there n m ns ne in let r = there_counted n ns (back h.0 h.1 h.2 ne) in omega arith)
-  where
-    back : (k : ℕ) → k < length (m ∷ ns) → get_or (m ∷ ns) k n ≡ n → m ≢ n → Contains ns n
-    back zero less is ne = absurd (ne is)
-    back (suc k) less is ne = (k, omega arith, is)
+use Rattle.cm_words.proofs.ListSums.{all_at, count_cons, count_here, count_there, counted_there, there_counted, one_if, one_if_other, one_if_same, sum_alone, sum_same, sum_set, sum_two}
 
 -- a seat that has a number still keeps what is asked of it
 pub still_seat : (v w : View) → v.number ≢ 65 → w.number ≡ v.number → w.made ≡ v.made → w.joined ≡ v.joined → w.due ≡ v.due → IsSeat v → IsSeat w

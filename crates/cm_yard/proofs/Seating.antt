@@ -21,7 +21,7 @@ use Rattle.cm_yard.specs.Words.{claim_at, first_words, stop_at}
 use Rattle.cm_yard.proofs.Owners.{first_few, first_length, first_stops}
 use Rattle.cm_yard.proofs.Frames.{claims_frame, stops_frame}
 use Rattle.cm_yard.proofs.Numbering.{alone, others, seats_due, seats_join, seats_split}
-use Rattle.cm_yard.proofs.Totals.{all_at, all_one, any_alone, any_one, any_snoc, at_inside, sum_alone, sum_set}
+use Rattle.cm_words.proofs.ListSums.{all_at, all_one, any_alone, any_one, any_snoc, at_inside, sum_alone, sum_set}
 
 -- a load notes the number of the next seat
 pub numbering : (key : Key) (slots id : ℕ) (me : SeatState) (n : ℕ) → me.0.number ≡ 64 → me.0.due ≡ [] → count_of n me.0.made ≡ 0 → Allows (IsYard key) slots id me 0 (λ n. n) (NotesNumber n (step slots 0 0 0 none) me)

@@ -17,7 +17,7 @@ use Rattle.cm_yard.specs.Views.{with_raise, with_stop}
 use Rattle.cm_yard.specs.Words.{stop_at, words_in_yard}
 use Rattle.cm_yard.proofs.Frames.{claims_frame, raised_more, stop_keeps, stops_frame}
 use Rattle.cm_yard.proofs.Numbering.{seats_frame}
-use Rattle.cm_yard.proofs.Totals.{all_at, any_has}
+use Rattle.cm_words.proofs.ListSums.{all_at, any_has}
 
 -- a number in a segment
 abbrev note_of : ℕ → ℕ → StopNumber

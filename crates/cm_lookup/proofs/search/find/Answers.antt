@@ -14,7 +14,7 @@ overflow_add-first g c =
 pub load-requires-clause-in_range : goal.load-requires-clause-in_range
 load-requires-clause-in_range g c =
     probe_in_range (g.M.Mem.seen c.loop-steps.mem) c.args.geo.now c.args.place c.slot_at-first.result c.home_of-home.result (2 * c.chunks-chunks.result) c.args.fingerprint c.loop-steps.steps c.requires.place
-    (ap (λ (s : Setting). s.geo) c.loop-steps.invariant.loaded.done.kept.setting ∙ c.requires.readable.geo_is) c.loop-steps.invariant.first_is c.loop-steps.invariant.home_is c.loop-steps.invariant.slots_are
+    (ap (λ (s : Setting). s.geo) c.loop-steps.invariant.loaded.done.keeps.setting ∙ c.requires.readable.geo_is) c.loop-steps.invariant.first_is c.loop-steps.invariant.home_is c.loop-steps.invariant.slots_are
 
 pub returns-in_err-word-clause-loads : goal.returns-in_err-word-clause-loads
 returns-in_err-word-clause-loads g c =

@@ -25,7 +25,7 @@ overflow_add-first g c =
     omega (arith, within, segment_limit (g.M.Mem.seen c.args.mem.now).setting.geo)
 
 pub load-requires-clause-in_range : goal.load-requires-clause-in_range
-load-requires-clause-in_range g c = behind_in_range (g.M.Mem.seen c.loop-steps.mem) c.args.geo.now c.args.place c.slot_at-first.result (2 * c.chunks-slots.result) c.args.slot c.loop-steps.steps c.requires.slot.place_inside (ap (λ (s : Setting). s.geo) c.loop-steps.invariant.so_far.done.kept.setting ∙ c.requires.writable.geo_is) c.loop-steps.invariant.first_is c.loop-steps.invariant.slots_are
+load-requires-clause-in_range g c = behind_in_range (g.M.Mem.seen c.loop-steps.mem) c.args.geo.now c.args.place c.slot_at-first.result (2 * c.chunks-slots.result) c.args.slot c.loop-steps.steps c.requires.slot.place_inside (ap (λ (s : Setting). s.geo) c.loop-steps.invariant.so_far.done.keeps.setting ∙ c.requires.writable.geo_is) c.loop-steps.invariant.first_is c.loop-steps.invariant.slots_are
 
 pub returns-in_err-word : goal.returns-in_err-word
 returns-in_err-word g c =
@@ -38,7 +38,7 @@ overflow_add-first-then-word-eq0 g c =
     omega (arith, within, segment_limit (g.M.Mem.seen c.args.mem.now).setting.geo)
 
 pub store-requires-clause-in_range : goal.store-requires-clause-in_range
-store-requires-clause-in_range g c = behind_in_range (g.M.Mem.seen c.load.new.self) c.args.geo.now c.args.place c.slot_at-first.result (2 * c.chunks-slots.result) c.args.slot c.loop-steps.hole c.requires.slot.place_inside (ap (λ (s : Setting). s.geo) (keeps_transitive _ _ _ c.loop-steps.invariant.so_far.done.kept c.in_ok-word.ensures.loads.call.done.kept).setting ∙ c.requires.writable.geo_is) c.loop-steps.invariant.first_is c.loop-steps.invariant.slots_are
+store-requires-clause-in_range g c = behind_in_range (g.M.Mem.seen c.load.new.self) c.args.geo.now c.args.place c.slot_at-first.result (2 * c.chunks-slots.result) c.args.slot c.loop-steps.hole c.requires.slot.place_inside (ap (λ (s : Setting). s.geo) (keeps_transitive _ _ _ c.loop-steps.invariant.so_far.done.keeps c.in_ok-word.ensures.loads.call.done.keeps).setting ∙ c.requires.writable.geo_is) c.loop-steps.invariant.first_is c.loop-steps.invariant.slots_are
 
 pub store-requires-clause-inner : goal.store-requires-clause-inner
 store-requires-clause-inner g c = behind_inner c.args.geo.now c.args.place c.slot_at-first.result (2 * c.chunks-slots.result) c.args.slot c.loop-steps.hole c.loop-steps.invariant.first_is c.loop-steps.invariant.slots_are
@@ -73,7 +73,7 @@ overflow_add-first-then-steps-way g c =
     omega (arith, within, segment_limit (g.M.Mem.seen c.args.mem.now).setting.geo)
 
 pub store-requires-then-steps-way-clause-in_range : goal.store-requires-then-steps-way-clause-in_range
-store-requires-then-steps-way-clause-in_range g c = behind_in_range (g.M.Mem.seen c.load.new.self) c.args.geo.now c.args.place c.slot_at-first.result (2 * c.chunks-slots.result) c.args.slot c.loop-steps.hole c.requires.slot.place_inside (ap (λ (s : Setting). s.geo) (keeps_transitive _ _ _ c.loop-steps.invariant.so_far.done.kept c.in_ok-word.ensures.loads.call.done.kept).setting ∙ c.requires.writable.geo_is) c.loop-steps.invariant.first_is c.loop-steps.invariant.slots_are
+store-requires-then-steps-way-clause-in_range g c = behind_in_range (g.M.Mem.seen c.load.new.self) c.args.geo.now c.args.place c.slot_at-first.result (2 * c.chunks-slots.result) c.args.slot c.loop-steps.hole c.requires.slot.place_inside (ap (λ (s : Setting). s.geo) (keeps_transitive _ _ _ c.loop-steps.invariant.so_far.done.keeps c.in_ok-word.ensures.loads.call.done.keeps).setting ∙ c.requires.writable.geo_is) c.loop-steps.invariant.first_is c.loop-steps.invariant.slots_are
 
 pub store-requires-then-steps-way-clause-inner : goal.store-requires-then-steps-way-clause-inner
 store-requires-then-steps-way-clause-inner g c = behind_inner c.args.geo.now c.args.place c.slot_at-first.result (2 * c.chunks-slots.result) c.args.slot c.loop-steps.hole c.loop-steps.invariant.first_is c.loop-steps.invariant.slots_are

@@ -1,10 +1,11 @@
--- Sums over lists of which one element changes, and facts on their elements.
-use Rattle.std.proofs.Common.{◌≡◌, ◌≢◌, ℕ, zero, suc, ◌+◌, ◌<◌, ◌≤◌, ◌==◌, if◌then◌else◌, List, [], ◌∷◌, ◌++◌, All, Any, length, set, get_or, sum_by, refl, sym, ap, ◌∙◌, subst, arith, length-set, length-append, get_or-set_same, get_or-set_other, inl, inr}
+-- Sums over lists of which one element changes, and facts on their elements. An element is given by its place.
+use Rattle.std.proofs.Common.{◌≡◌, ◌≢◌, ℕ, zero, suc, ◌+◌, ◌<◌, ◌≤◌, ◌==◌, if◌then◌else◌, List, [], ◌∷◌, ◌++◌, All, Any, length, set, get_or, count_by, sum_by, Contains, refl, sym, ap, ◌∙◌, subst, arith, length-set, length-append, get_or-set_same, get_or-set_other, inl, inr}
 use Rattle.std.proofs.lemmas.Bool.{cases_eq}
 use Rattle.std.proofs.lemmas.List.Sums.{sum_by-cons, sum_by-set}
+use mathlib.Core.Logic.{dite}
 use mathlib.Core.Option.{some, some-injective, some-ne-none}
+use native.Mathlib.Decide.{ℕ_discrete}
 use lib.ListN.{get_elem?}
-use Rattle.atomic_table.proofs.Lists.{at_index}
 
 -- 1 where two numbers are equal
 abbrev pub one_if : ℕ → ℕ → ℕ
@@ -31,9 +32,27 @@ module _ {X : Type 0} where
   at_read (x ∷ xs) zero v d at = some-injective x v at
   at_read (x ∷ xs) (suc i) v d at = at_read xs i v d at
 
+  -- what is read inside the list is at that place
+  pub at_get : (l : List X) (i : ℕ) (d : X) → i < length l → get_elem? l i ≡ some (get_or l i d)
+  at_get [] i d less = absurd (omega arith)
+  at_get (x ∷ xs) zero d less = refl
+  at_get (x ∷ xs) (suc i) d less = at_get xs i d (omega arith)
+
   -- a fact on each element holds of the one at a place
   pub all_at : (P : X → Type 0) (l : List X) (i : ℕ) (v : X) → get_elem? l i ≡ some v → All P l → P v
   all_at P l i v at all = subst P (at_read l i v v at) (all i v (at_inside l i v at))
+
+  -- and what holds at each place holds of each element
+  pub all_from : (P : X → Type 0) (l : List X) → ((i : ℕ) (v : X) → get_elem? l i ≡ some v → P v) → All P l
+  all_from P l h i d less = h i (get_or l i d) (at_get l i d less)
+
+  -- where one element changes, each other one may go from one fact to another
+  pub all_set : (P Q : X → Type 0) (l : List X) (i : ℕ) (w : X) → ((j : ℕ) (u : X) → j ≢ i → get_elem? l j ≡ some u → P u → Q u) → All P l → Q w → All Q (set l i w)
+  all_set P Q l i w others all mine j d less = elim (cases_eq j i) [
+    | inl here ↦ subst Q (sym (ap (λ (k : ℕ). get_or (set l i w) k d) here ∙ get_or-set_same l i w d (let e = length-set l i w in omega arith))) mine
+    | inr other ↦ (let inside : j < length l = subst (λ (n : ℕ). j < n) (length-set l i w) less in
+        subst Q (sym (get_or-set_other l i j w d other)) (others j (get_or l j d) other (at_get l j d inside) (all j d inside)))
+  ]
 
   -- and of each of a list of one
   pub all_one : (P : X → Type 0) (x : X) → P x → All P (x ∷ [])
@@ -64,6 +83,20 @@ module _ {X : Type 0} where
   sum_two f (x ∷ xs) zero (suc j) v w n e h = let is : f x ≡ f v = ap f (some-injective x v e) in let r = sum_part f xs j w h in let c = sum_by-cons f x xs in omega arith
   sum_two f (x ∷ xs) (suc i) zero v w n e h = let is : f x ≡ f w = ap f (some-injective x w h) in let r = sum_part f xs i v e in let c = sum_by-cons f x xs in omega arith
   sum_two f (x ∷ xs) (suc i) (suc j) v w n e h = let r = sum_two f xs i j v w (λ q. n (ap suc q)) e h in let c = sum_by-cons f x xs in omega arith
+
+  -- where one term is at most another for each element, so is the sum
+  pub sum_le : (f g : X → ℕ) (l : List X) → ((i : ℕ) (v : X) → get_elem? l i ≡ some v → f v ≤ g v) → sum_by f l ≤ sum_by g l
+  sum_le f g [] h = omega arith
+  sum_le f g (x ∷ xs) h = let a = h zero x refl in let r = sum_le f g xs (λ i v e. h (suc i) v e) in let c = sum_by-cons f x xs in let d = sum_by-cons g x xs in omega arith
+
+  -- and where the sums are equal, so are the terms
+  pub sum_gap : (f g : X → ℕ) (l : List X) (i : ℕ) (v : X) → ((j : ℕ) (u : X) → get_elem? l j ≡ some u → f u ≤ g u) → get_elem? l i ≡ some v → sum_by f l + g v ≤ sum_by g l + f v
+  sum_gap f g [] i v h at = absurd (some-ne-none v (sym at))
+  sum_gap f g (x ∷ xs) zero v h at =
+      let a : f x ≡ f v = ap f (some-injective x v at) in let b : g x ≡ g v = ap g (some-injective x v at) in
+      let r = sum_le f g xs (λ i u e. h (suc i) u e) in let c = sum_by-cons f x xs in let d = sum_by-cons g x xs in omega arith
+  sum_gap f g (x ∷ xs) (suc i) v h at =
+      let a = h zero x refl in let r = sum_gap f g xs i v (λ j u e. h (suc j) u e) at in let c = sum_by-cons f x xs in let d = sum_by-cons g x xs in omega arith
 
   -- where each element counts nothing, so does the sum
   pub sum_none : (f : X → ℕ) (l : List X) → ((j : ℕ) (u : X) → get_elem? l j ≡ some u → f u ≡ 0) → sum_by f l ≡ 0
@@ -113,11 +146,14 @@ module _ {X : Type 0} where
       front (y ∷ ys) zero less = refl
       front (y ∷ ys) (suc j) less = front ys j (omega arith)
 
+  at_same : (l : List X) (k : ℕ) (x : X) → k < length l → get_or l k x ≡ x → get_elem? l k ≡ some x
+  at_same l k x less is = at_get l k x less ∙ ap some is
+
   -- where no other element has the fact, this one has it
   pub any_alone : (P : X → Type 0) (l : List X) (i : ℕ) (v : X) → get_elem? l i ≡ some v → ((j : ℕ) (u : X) → j ≢ i → get_elem? l j ≡ some u → P u → ⊥) → Any P l → P v
   any_alone P l i v at none any =
       let k = any.0 in let x = any.1 in let less = any.2 in let is = any.3 in
-      let there = at_index l k x less (sym is) in
+      let there = at_same l k x less is in
       elim (cases_eq k i) [
         | inl here ↦ subst P (some-injective x v (sym there ∙ (ap (λ (j : ℕ). get_elem? l j) here ∙ at))) any.4
         | inr other ↦ absurd (none k x other there any.4)
@@ -126,3 +162,33 @@ module _ {X : Type 0} where
   -- of a list of one
   pub any_one : (P : X → Type 0) (x : X) → P x → Any P (x ∷ [])
   any_one P x h = (0, x, omega arith, refl, h)
+
+-- how often a number is in a list of numbers with one more in front
+pub count_cons : (n m : ℕ) (ns : List ℕ) → count_by (λ (k : ℕ). k == n) (m ∷ ns) ≡ one_if m n + count_by (λ (k : ℕ). k == n) ns
+count_cons n m ns = sum_by-cons (λ (k : ℕ). one_if k n) m ns
+
+-- in front of which it stands itself
+pub count_here : (n : ℕ) (ns : List ℕ) → count_by (λ (k : ℕ). k == n) (n ∷ ns) ≡ 1 + count_by (λ (k : ℕ). k == n) ns
+count_here n ns = let c = count_cons n n ns in let i = one_if_same n n refl in omega arith
+
+-- in front of which another one stands
+pub count_there : (n m : ℕ) (ns : List ℕ) → m ≢ n → count_by (λ (k : ℕ). k == n) (m ∷ ns) ≡ count_by (λ (k : ℕ). k == n) ns
+count_there n m ns ne = let c = count_cons n m ns in let i = one_if_other m n ne in omega arith
+
+-- a number that is counted is in the list
+pub counted_there : (n : ℕ) (ns : List ℕ) → 0 < count_by (λ (k : ℕ). k == n) ns → Contains ns n
+counted_there n [] h = absurd (omega arith)
+counted_there n (m ∷ ns) h = dite (ℕ_discrete m n)
+    (λ e. (0, omega arith, e))
+    (λ ne. let c = count_there n m ns ne in let r = counted_there n ns (omega arith) in (suc r.0, (let l = r.1 in omega arith), r.2))
+
+-- a number in the list is counted
+pub there_counted : (n : ℕ) (ns : List ℕ) → Contains ns n → 0 < count_by (λ (k : ℕ). k == n) ns
+there_counted n [] h = let l = h.1 in absurd (omega arith)
+there_counted n (m ∷ ns) h = dite (ℕ_discrete m n)
+    (λ e. let c = count_cons n m ns in let i = one_if_same m n e in omega arith)
+    (λ ne. let c = count_there n m ns ne in let r = there_counted n ns (back h.0 h.1 h.2 ne) in omega arith)
+  where
+    back : (k : ℕ) → k < length (m ∷ ns) → get_or (m ∷ ns) k n ≡ n → m ≢ n → Contains ns n
+    back zero less is ne = absurd (ne is)
+    back (suc k) less is ne = (k, omega arith, is)
