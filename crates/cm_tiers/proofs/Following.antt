@@ -30,7 +30,7 @@ pub record Followed (m : MemSeen) (geo : Geo) (places : List ℕ) (len place : �
   pub led : (words : List ℕ) → FitsNotes m words → chain_of geo words ≡ chain_from (geo.tiers + 1 - len) geo words (take len places) place
 
 -- there is a link to be followed
-one_more : (geo : Geo) (words places : List ℕ) (len place : ℕ) → len ≤ geo.tiers → chain_from (geo.tiers + 1 - len) geo words places place ≡ chain_from (suc (geo.tiers - len)) geo words places place
+pub one_more : (geo : Geo) (words places : List ℕ) (len place : ℕ) → len ≤ geo.tiers → chain_from (geo.tiers + 1 - len) geo words places place ≡ chain_from (suc (geo.tiers - len)) geo words places place
 one_more geo words places len place within_limit = let e : geo.tiers + 1 - len ≡ suc (geo.tiers - len) = omega arith in ap (λ (n : ℕ). chain_from n geo words places place) e
 
 pub found_end : (a b : MemSeen) (geo : Geo) (places : List ℕ) (len place at link : ℕ) → Followed a geo places len place → Reads a b → at ≡ tier_at geo place → Knows b at link → link ≡ 0
@@ -54,7 +54,7 @@ has_room geo places len link found somewhere =
     omega arith
 
 -- one place more
-found_more : (geo : Geo) (places : List ℕ) (len link : ℕ) → Found geo places len → len < geo.tiers → IsOutside geo (take len places) link → take (len + 1) (set places len link) ≡ take len places ++ link ∷ []
+pub found_more : (geo : Geo) (places : List ℕ) (len link : ℕ) → Found geo places len → len < geo.tiers → IsOutside geo (take len places) link → take (len + 1) (set places len link) ≡ take len places ++ link ∷ []
     → Found geo (set places len link) (len + 1)
 found_more geo places len link found room outside taken =
     let low : len < length places = omega (arith, found.long, (tiers_range geo).1) in

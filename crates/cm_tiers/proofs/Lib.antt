@@ -4,3 +4,4 @@ pub mod ChainLength
 pub mod ChainSteps
 pub mod Following
 pub mod Appending
+pub mod TiersFound

@@ -3,8 +3,10 @@
 
 mod links;
 mod places;
+mod stepwise;
 #[cfg(test)]
 mod tests;
 
 pub use links::{chain, link, next};
 pub use places::{Chain, lowest_unlinked};
+pub use stepwise::Tiers;

@@ -1,6 +1,6 @@
 //! Reading and storing the links of tiers.
 
-ghost use Rattle.std.specs.Prelude.{◌≡◌, ◌+◌, ◌<◌, ◌==◌, ◌||◌, IfOk, List, ℕ, nat_le};
+ghost use Rattle.std.specs.Prelude.{◌≡◌, ◌+◌, ◌<◌, ◌==◌, ◌||◌, IfOk, IfSome, List, ℕ, nat_le};
 ghost use Rattle.std.specs.List.{list_any};
 ghost use Rattle.cm_geo.specs.Addresses.{tier_at};
 ghost use Rattle.cm_plain.specs.Slots.{word_at};
@@ -64,6 +64,7 @@ pub fn next<M: Mem>(mem: &mut M, geo: &Geo, place: u32) -> Result<Option<u32>, D
     requires readable { IsReadable (M.seen mem.old) geo.now }
     requires place { place < geo.now.tiers }
     ensures loads { LoadsOnce M.seen M.same_rest mem.old mem.new result }
+    ensures below { IfOk result (λ next. IfSome next (λ place. place < geo.now.tiers)) }
     ensures linked { IfOk result (λ next. (words : List ℕ) → FitsNotes (M.seen mem.new) words → LinksTo geo.now (word_at words (tier_at geo.now place)) next) }
 {
     let link = mem.load(geo.tier_at(place))?;
