@@ -70,13 +70,13 @@ may_store_head old now at head stood behind reads knows differ may words fits =
       | inl same ↦ absurd (differ (sym here ∙ same.1))
       | inr other ↦ (
           let allows : AllowsAll old.setting old.plan (origin old words) words (store_at at head ∷ []) = rw other.0 at (may words (reads.fits words fits)) in
-          (allows_at old now (origin old words) (origin now words) words words (store_at at head ∷ []) reads.kept (reads.origin words fits) refl allows).0)
+          (allows_at old now (origin old words) (origin now words) words words (store_at at head ∷ []) reads.keeps (reads.origin words fits) refl allows).0)
     ]
 
 -- it stands there, and was not stored
 pub head_stays : (old now : MemSeen) (at head stood : ℕ) → 1 < at → Reads old now → Knows now at stood → stood ≡ head → WritesEach old now (head_stores at head)
 head_stays old now at head stood inner reads knows same = record {
-  kept = reads.kept;
+  keeps = reads.keeps;
   came = λ words fits. (
     words,
     record {

@@ -3,6 +3,7 @@ pub mod LoadCounts
 pub mod SpanHashes
 pub mod SpanEquality
 pub mod SpanCopies
+pub mod PrefixCopies
 pub mod EntryAt
 pub mod VerdictCases
 pub mod EntryParts

@@ -5,7 +5,7 @@ use Rattle.std.specs.Int.{to_le_bytes, from_le_bytes, w64}
 use Rattle.std.proofs.lemmas.Bool.{cases_lt}
 use Rattle.std.proofs.lemmas.Grind.{common_steps}
 use Rattle.std.proofs.lemmas.Nat.{le_bytes_8}
-use Rattle.std.proofs.lemmas.List.{length-append, length-drop, length-replicate, length-take-le, drop-drop, drop_all, take_all, take-append-drop, take_more, get_or-drop}
+use Rattle.std.proofs.lemmas.List.{append-nil, length-append, length-drop, length-replicate, length-take-le, drop-drop, drop_all, take_all, take-append-drop, take_more, get_or-drop}
 use Rattle.std.proofs.lemmas.List.Concat.{flat_map-append}
 use Rattle.std.proofs.lemmas.List.FromFn.{fill_by_all, length-map-range_with_len, get_or-map-range_with_len}
 use Rattle.cm_geo.specs.Hash.{hash, hash_byte}
@@ -128,10 +128,6 @@ pub hash_on_none : (bytes : List ℕ) (state : ℕ) → hash_on state (bytes_of 
 unfolding hash_on
 hash_on_none bytes state = refl
 
-append_nothing : (xs : List ℕ) → xs ++ [] ≡ xs
-append_nothing [] = refl
-append_nothing (x ∷ xs) = ap (λ (ys : List ℕ). x ∷ ys) (append_nothing xs)
-
 -- a hash over the words so far, and over the next one
 pub hash_on_more : (bytes : List ℕ) (number state now hashed : ℕ) → number < parts_for 8 (length bytes) → now ≡ hash_on state (bytes_of (take number (words_of bytes)))
     → hashed ≡ hash_on now (to_le_bytes w64 (word_of (part_of bytes number))) → hashed ≡ hash_on state (bytes_of (take (number + 1) (words_of bytes)))
@@ -140,7 +136,7 @@ hash_on_more bytes number state now hashed inside so_far next =
     let word = get_or (words_of bytes) number 0 in
     let more : take (number + 1) (words_of bytes) ≡ take number (words_of bytes) ++ word ∷ [] = take_more (words_of bytes) number 0 there in
     let split : bytes_of (take (number + 1) (words_of bytes)) ≡ bytes_of (take number (words_of bytes)) ++ to_le_bytes w64 word
-    = ap (λ (ws : List ℕ). bytes_of ws) more ∙ (flat_map-append (to_le_bytes w64) (take number (words_of bytes)) (word ∷ []) ∙ ap (λ (bs : List ℕ). bytes_of (take number (words_of bytes)) ++ bs) (append_nothing (to_le_bytes w64 word))) in
+    = ap (λ (ws : List ℕ). bytes_of ws) more ∙ (flat_map-append (to_le_bytes w64) (take number (words_of bytes)) (word ∷ []) ∙ ap (λ (bs : List ℕ). bytes_of (take number (words_of bytes)) ++ bs) (append-nil (to_le_bytes w64 word))) in
     next ∙ (ap (λ (w : ℕ). hash_on now (to_le_bytes w64 w)) (sym (word_in_words bytes number inside))
     ∙ (ap (λ (h : ℕ). hash_on h (to_le_bytes w64 word)) so_far
     ∙ (sym (hash_on_append (bytes_of (take number (words_of bytes))) (to_le_bytes w64 word) state) ∙ ap (λ (bs : List ℕ). hash_on state bs) (sym split))))

@@ -28,13 +28,13 @@ use Rattle.cm_entry.proofs.SpanWords.{bytes_more, first_eight, part_begins, stre
 -- a span's words are words of the segment after loads, too
 pub inside_kept : (a b c : MemSeen) (span : Span) → Reads a b → Reads b c → IsInside a.setting.geo span → span.at + parts_for 8 span.len ≤ words_in_segment c.setting.geo
 inside_kept a b c span first then inside =
-    subst (λ (setting : Setting). span.at + parts_for 8 span.len ≤ words_in_segment setting.geo) (sym (then.kept.setting ∙ first.kept.setting)) inside.inside
+    subst (λ (setting : Setting). span.at + parts_for 8 span.len ≤ words_in_segment setting.geo) (sym (then.keeps.setting ∙ first.keeps.setting)) inside.inside
 
 -- and they may be loaded
 pub readable_after : (a b : MemSeen) (geo : Geo) (span : Span) → IsReadable a geo → Reads a b → IsInside geo span → IsReadableSpan b span
 readable_after a b geo span readable reads inside = record {
-  not_closed = subst (λ (setting : Setting). setting.access ≢ Closed) (sym reads.kept.setting) readable.not_closed;
-  inside = subst (λ (g : Geo). IsInside g span) (sym (ap (λ (setting : Setting). setting.geo) reads.kept.setting ∙ readable.geo_is)) inside;
+  not_closed = subst (λ (setting : Setting). setting.access ≢ Closed) (sym reads.keeps.setting) readable.not_closed;
+  inside = subst (λ (g : Geo). IsInside g span) (sym (ap (λ (setting : Setting). setting.geo) reads.keeps.setting ∙ readable.geo_is)) inside;
 }
 
 -- and so may the words of a value behind its key
@@ -49,7 +49,7 @@ span_within a b span reads inside words fits = omega (arith, fits.are.length_is,
 
 -- after loads a list that fits has as many words as the segment
 pub words_long : (a b : MemSeen) (geo : Geo) → Reads a b → a.setting.geo ≡ geo → (words : List ℕ) → FitsNotes b words → length words ≡ words_in_segment geo
-words_long a b geo reads is words fits = fits.are.length_is ∙ ap (λ (g : Geo). words_in_segment g) (ap (λ (s : Setting). s.geo) reads.kept.setting ∙ is)
+words_long a b geo reads is words fits = fits.are.length_is ∙ ap (λ (g : Geo). words_in_segment g) (ap (λ (s : Setting). s.geo) reads.keeps.setting ∙ is)
 
 -- no word
 pub hash_none : (m : MemSeen) (span : Span) (start : ℕ) → AreHashesSoFar m span start start 0 0

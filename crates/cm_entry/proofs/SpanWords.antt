@@ -1,8 +1,8 @@
 -- The bytes that stand in words, one word more at a time.
-use Rattle.std.proofs.Common.{◌≡◌, ℕ, ◌+◌, ◌-◌, ◌*◌, ◌<◌, ◌≤◌, ◌⊎◌, List, [], ◌∷◌, ◌++◌, length, get_or, take, drop, arith, refl, ap, sym, ◌∙◌, inl, inr, length-drop, min}
+use Rattle.std.proofs.Common.{◌≡◌, ℕ, ◌+◌, ◌-◌, ◌*◌, ◌<◌, ◌≤◌, ◌⊎◌, List, [], ◌∷◌, ◌++◌, length, get_or, take, drop, arith, ap, sym, ◌∙◌, inl, inr, length-drop, min}
 use Rattle.std.specs.Int.{div_ceil, to_le_bytes, w64}
 use Rattle.std.proofs.lemmas.Bool.{cases_lt}
-use Rattle.std.proofs.lemmas.List.{get_or-drop, length-take-le, take_all, take_at, take-take, take_more, take-append-drop, take_min}
+use Rattle.std.proofs.lemmas.List.{append-nil, get_or-drop, length-take-le, take_all, take_at, take-take, take_more, take-append-drop, take_min}
 use Rattle.std.proofs.lemmas.Grind.{flat_map-append}
 use Rattle.std.proofs.Math.Seq.{take-append-add}
 use Rattle.cm_geo.specs.Need.{parts_for}
@@ -23,13 +23,9 @@ stretch_more words at count within =
     take_more (drop at words) count 0 (omega (arith, length-drop at words))
     ∙ ap (λ (w : ℕ). take count (drop at words) ++ w ∷ []) (get_or-drop at words count 0)
 
-no_more : (xs : List ℕ) → xs ++ [] ≡ xs
-no_more [] = refl
-no_more (x ∷ xs) = ap (λ (ys : List ℕ). x ∷ ys) (no_more xs)
-
 -- the bytes of one word more
 pub bytes_more : (ws : List ℕ) (word : ℕ) → bytes_of (ws ++ word ∷ []) ≡ bytes_of ws ++ to_le_bytes w64 word
-bytes_more ws word = flat_map-append (to_le_bytes w64) ws (word ∷ []) ∙ ap (λ (bs : List ℕ). bytes_of ws ++ bs) (no_more (to_le_bytes w64 word))
+bytes_more ws word = flat_map-append (to_le_bytes w64) ws (word ∷ []) ∙ ap (λ (bs : List ℕ). bytes_of ws ++ bs) (append-nil (to_le_bytes w64 word))
 
 -- the bytes of the first words are the first bytes
 pub bytes_prefix : (ws : List ℕ) (count : ℕ) → bytes_of (take count ws) ≡ take (8 * count) (bytes_of ws)

@@ -185,9 +185,9 @@ pub readable_entry : (a b : MemSeen) (geo : Geo) (place chunk at key value head 
     → AreReadable b (at + 2) key value
 readable_entry a b geo place chunk at key value head readable reads at_is key_is value_is fit =
     let lengths = are_fit geo chunk head fit in
-    let geo_is : b.setting.geo ≡ geo = ap (λ (setting : Setting). setting.geo) reads.kept.setting ∙ readable.readable.geo_is in
+    let geo_is : b.setting.geo ≡ geo = ap (λ (setting : Setting). setting.geo) reads.keeps.setting ∙ readable.readable.geo_is in
     record {
-      not_closed = subst (λ (setting : Setting). setting.access ≢ Closed) (sym reads.kept.setting) readable.readable.not_closed;
+      not_closed = subst (λ (setting : Setting). setting.access ≢ Closed) (sym reads.keeps.setting) readable.readable.not_closed;
       inner = omega arith;
       key_short = rw key_is lengths.key_short;
       value_short = rw value_is lengths.value_short;

@@ -5,5 +5,6 @@ pub mod Hashes
 pub mod Parts
 pub mod Verdicts
 pub mod Progress
+pub mod Prefixes
 pub mod Packing
 pub mod EntryStores

@@ -1,5 +1,5 @@
 -- What a call that reads a key or a value answers (own).
-use Rattle.std.specs.Prelude.{ℕ, ◌≡◌, ◌≤◌, ◌↔◌, Bool, IsTrue, List, Result, Ok, Err, length, take, drop}
+use Rattle.std.specs.Prelude.{ℕ, ◌≡◌, ◌≤◌, ◌↔◌, Bool, IsTrue, List, Option, Some, None, Result, Ok, Err, length, take, drop}
 use Rattle.cm_geo.specs.declared.geo.Geo.{Geo}
 use Rattle.cm_plain.specs.declared.reply.Pair.{Pair}
 use Rattle.cm_plain.specs.Readings.{entry, reading_at}
@@ -19,3 +19,9 @@ pub record IsPartCopy (m : MemSeen) (geo : Geo) (place chunk most : ℕ) (part :
 abbrev pub KeepsRest : {E : Type 0} → ℕ → List ℕ → List ℕ → Result ℕ E → Type 0
 KeepsRest most old now (Ok len) = drop len now ≡ drop len old
 KeepsRest most old now (Err error) = drop most now ≡ drop most old
+
+-- the same of a call that may find nothing: behind the length of what it found, and else behind this one
+abbrev pub KeepsRestIf : {A E : Type 0} → ℕ → ℕ → (A → ℕ) → List ℕ → List ℕ → Result (Option A) E → Type 0
+KeepsRestIf most unfound len old now (Ok (Some found)) = drop (len found) now ≡ drop (len found) old
+KeepsRestIf most unfound len old now (Ok None) = drop unfound now ≡ drop unfound old
+KeepsRestIf most unfound len old now (Err error) = drop most now ≡ drop most old

@@ -28,6 +28,7 @@ fn word_begins(word: u64, bytes: &[u8]) -> bool
 pub(crate) fn same_bytes<M: Mem>(mem: &mut M, span: Span, bytes: &[u8]) -> Result<bool, Dead>
     requires { IsReadableSpan (M.seen mem.old) span }
     ensures loads { LoadsToCompare M.seen M.same_rest (parts_for 8 (length bytes.now)) mem.old mem.new result }
+    ensures length { IfOk result (λ same. IsTrue same → length bytes.now ≡ span.len) }
     ensures same { IfOk result (λ same. (words : List ℕ) → FitsNotes (M.seen mem.new) words → (IsTrue same ↔ (bytes_in words span ≡ bytes.now))) }
 {
     if bytes.len() != span.len as usize {

@@ -6,6 +6,7 @@ mod compare;
 mod copy;
 mod hashing;
 mod pack;
+mod prefix;
 mod read;
 mod span;
 mod store;
@@ -15,7 +16,10 @@ mod tests;
 mod tests_write;
 mod verdict;
 
-pub use read::{key_equals, key_hash, read_key_into, read_value_into, value_equals};
+pub use read::{
+    key_equals, key_hash, lengths_if_key, read_key_into, read_key_with_prefix, read_value_into,
+    value_equals,
+};
 pub use span::lengths;
 pub use store::{write, write_value};
 pub use verdict::{Verdict, verify};

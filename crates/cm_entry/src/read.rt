@@ -1,18 +1,21 @@
 //! Reading the entry that stands at a chunk.
 
-ghost use Rattle.std.specs.Prelude.{◌≡◌, ◌+◌, ◌≤◌, IfOk, List, ℕ, length};
+ghost use Rattle.std.specs.Prelude.{◌≡◌, ◌+◌, ◌≤◌, IfOk, IsSome, List, MatchOption, ℕ, length, min};
 ghost use Rattle.cm_geo.specs.Hash.{hash as hash_of};
 ghost use Rattle.cm_geo.specs.Need.{parts_for};
 ghost use Rattle.cm_plain.specs.declared.reply.Pair.{Pair};
 ghost use Rattle.cm_plain.specs.Readings.{entry, reading_at};
 ghost use Rattle.cm_words.specs.Memory.{FitsNotes};
+ghost use Rattle.cm_words.specs.Calls.{Loads};
 ghost use Rattle.cm_entry.specs.Loading.{IsReadableChunk, LoadsAtMost, LoadsCounted, LoadsToCompare};
-ghost use Rattle.cm_entry.specs.Parts.{IsPartCopy, IsPartEqual, KeepsRest};
+ghost use Rattle.cm_entry.specs.Parts.{IsPartCopy, IsPartEqual, KeepsRest, KeepsRestIf};
+ghost use Rattle.cm_entry.specs.Prefixes.{AreLengthsIf, IsKeyCopyIf};
 
 use crate::checksum::hash_span;
 use crate::compare::same_bytes;
 use crate::copy::copy_bytes;
-use crate::span::{key_span, value_span};
+use crate::prefix::copy_prefixed;
+use crate::span::{key_span, key_span_of, lengths, value_span};
 use cm_geo::{Geo, hash};
 use cm_words::{Dead, Mem};
 
@@ -30,6 +33,27 @@ pub fn key_equals<M: Mem>(
 {
     let span = key_span(mem, geo, place, chunk)?;
     same_bytes(mem, span, key)
+}
+
+/// The lengths of the key and of the value of the entry at a chunk, if its key is this one.
+pub fn lengths_if_key<M: Mem>(
+    mem: &mut M,
+    geo: &Geo,
+    place: u32,
+    chunk: u32,
+    key: &[u8],
+) -> Result<Option<(u32, u32)>, Dead>
+    requires readable { IsReadableChunk (M.seen mem.old) geo.now place chunk }
+    ensures loads { LoadsAtMost M.seen M.same_rest (1 + parts_for 8 (length key.now)) mem.old mem.new result }
+    ensures short { IfOk result (λ lengths. IsSome lengths → length key.now ≤ 256) }
+    ensures lengths { IfOk result (AreLengthsIf (M.seen mem.new) geo.now place chunk key.now) }
+{
+    let (key_len, value_len) = lengths(mem, geo, place, chunk)?;
+    let span = key_span_of(geo, place, chunk, key_len);
+    if same_bytes(mem, span, key)? {
+        return Ok(Some((key_len, value_len)));
+    }
+    Ok(None)
 }
 
 /// Whether the value of the entry at a chunk is this one.
@@ -78,6 +102,33 @@ pub fn read_key_into<M: Mem>(
     let span = key_span(mem, geo, place, chunk)?;
     copy_bytes(mem, span, out)?;
     Ok(span.len)
+}
+
+/// Copies the key of the entry at a chunk to the beginning of `out`, which has 256 bytes or more, if it
+/// begins with the prefix, and answers its length. Of another key it loads no more than shows this, and
+/// then a part of the prefix may stand at the beginning of `out`. What stands behind stays.
+pub fn read_key_with_prefix<M: Mem>(
+    mem: &mut M,
+    geo: &Geo,
+    place: u32,
+    chunk: u32,
+    prefix: &[u8],
+    out: &mut [u8],
+) -> Result<Option<u32>, Dead>
+    requires readable { IsReadableChunk (M.seen mem.old) geo.now place chunk }
+    requires room { 256 ≤ length out.old }
+    ensures loads { Loads M.seen M.same_rest mem.old mem.new result }
+    ensures count { IfOk result (λ found. MatchOption found
+        ((M.seen mem.new).meter.events ≤ (M.seen mem.old).meter.events + 1 + parts_for 8 (length prefix.now))
+        (λ len. (M.seen mem.new).meter.events ≡ (M.seen mem.old).meter.events + 1 + parts_for 8 len)) }
+    ensures key { IfOk result (IsKeyCopyIf (M.seen mem.new) geo.now place chunk prefix.now out.new) }
+    ensures rest { KeepsRestIf 256 (min 256 (length prefix.now)) (λ len. len) out.old out.new result }
+{
+    let span = key_span(mem, geo, place, chunk)?;
+    if copy_prefixed(mem, span, prefix, out)? {
+        return Ok(Some(span.len));
+    }
+    Ok(None)
 }
 
 /// Copies the value of the entry at a chunk to the beginning of `out`, which has 4096 bytes or more, and

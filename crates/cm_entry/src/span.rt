@@ -1,6 +1,7 @@
 //! Where the bytes of a key or a value stand.
 
-ghost use Rattle.std.specs.Prelude.{◌≡◌, IfOk, List, ℕ};
+ghost use Rattle.std.specs.Prelude.{◌≡◌, ◌+◌, ◌<◌, IfOk, List, ℕ};
+ghost use Rattle.cm_geo.specs.Addresses.{chunk_at};
 ghost use Rattle.cm_words.specs.Memory.{FitsNotes};
 ghost use Rattle.cm_words.specs.Calls.{LoadsOnce};
 ghost use Rattle.cm_entry.specs.Loading.{IsReadableChunk};
@@ -47,13 +48,22 @@ fn span_at(geo: &Geo, at: u32, len: u32, most: u32) -> Span
     }
 }
 
+/// Where a key of this length stands in the entry at a chunk.
+pub(crate) fn key_span_of(geo: &Geo, place: u32, chunk: u32, len: u32) -> Span
+    requires place { place < geo.now.tiers }
+    requires chunk { chunk < geo.now.chunks }
+    ensures { IsSpanAt geo.now (chunk_at geo.now place chunk + 2) len 256 result }
+{
+    span_at(geo, geo.chunk_at(place, chunk) + 2, len, 256)
+}
+
 /// Where the key of the entry at a chunk stands.
 pub(crate) fn key_span<M: Mem>(mem: &mut M, geo: &Geo, place: u32, chunk: u32) -> Result<Span, Dead>
     requires { IsReadableChunk (M.seen mem.old) geo.now place chunk }
     ensures { LoadsSpan M.seen M.same_rest geo.now place chunk 256 (λ pair. pair.key) mem.old mem.new result }
 {
     let (key_len, _) = lengths(mem, geo, place, chunk)?;
-    Ok(span_at(geo, geo.chunk_at(place, chunk) + 2, key_len, 256))
+    Ok(key_span_of(geo, place, chunk, key_len))
 }
 
 /// Where the value of the entry at a chunk stands.

@@ -1,7 +1,8 @@
 //! Entries made word by word. The checksums and hashes come from FNV-1a as another program computes it.
 
 use crate::{
-    Verdict, key_equals, key_hash, lengths, read_key_into, read_value_into, value_equals, verify,
+    Verdict, key_equals, key_hash, lengths, lengths_if_key, read_key_into, read_key_with_prefix,
+    read_value_into, value_equals, verify,
 };
 use cm_geo::Geo;
 use cm_words::{FixedMem, Words};
@@ -87,6 +88,33 @@ fn key_at(words: &Words, chunk: u32, key: &[u8]) -> Option<(bool, bool)> {
     Some((equals, &out[..len as usize] == key))
 }
 
+// How much of the key is copied where it begins with a prefix, and whether the rest of `out` stays.
+#[tactic(auto, using(cm_geo::proofs::Ranges::segments_range, cm_geo::proofs::Ranges::tiers_range))]
+fn prefixed_at(words: &Words, chunk: u32, prefix: &[u8]) -> Option<(Option<u32>, bool)> {
+    let geo = *words.geo();
+    if chunk >= geo.chunks() {
+        return None;
+    }
+    let mut mem = FixedMem::new(words, 0);
+    let mut out = [0xee; 256];
+    let len = read_key_with_prefix(&mut mem, &geo, 0, chunk, prefix, &mut out).ok()?;
+    let written = len.unwrap_or(prefix.len().min(256) as u32);
+    let rest_stays = out.iter().skip(written as usize).all(|byte| *byte == 0xee);
+    Some((len, rest_stays))
+}
+
+// The entry's lengths, if it has this key.
+#[tactic(auto, using(cm_geo::proofs::Ranges::segments_range, cm_geo::proofs::Ranges::tiers_range))]
+fn lengths_for(words: &Words, chunk: u32, key: &[u8]) -> Option<(u32, u32)> {
+    let geo = *words.geo();
+    if chunk >= geo.chunks() {
+        return None;
+    }
+    lengths_if_key(&mut FixedMem::new(words, 0), &geo, 0, chunk, key)
+        .ok()
+        .flatten()
+}
+
 // Whether the entry has this value, by comparing and by reading.
 #[tactic(auto, using(cm_geo::proofs::Ranges::segments_range, cm_geo::proofs::Ranges::tiers_range))]
 fn value_at(words: &Words, chunk: u32, value: &[u8]) -> Option<(bool, bool)> {
@@ -164,6 +192,31 @@ fn a_small_entry_is_read(rt: HostRuntime) -> Result<(), Fail> {
     assert_eq!(rt; key_at(&words, 63, b"short ke"), Some((false, false)));
     assert_eq!(rt; value_at(&words, 63, b"value!"), Some((true, true)));
     assert_eq!(rt; value_at(&words, 63, b"Value!"), Some((false, false)));
+    Ok(())
+}
+
+#[test]
+fn a_key_is_read_if_it_begins_with_a_prefix(rt: HostRuntime) -> Result<(), Fail> {
+    let words = laid(rt.alloc(), LAST_CHUNK, &SMALL)?;
+    let rows: [(&[u8], Option<u32>); 8] = [
+        (b"", Some(9)),
+        (b"s", Some(9)),
+        (b"short ke", Some(9)),
+        (b"short key", Some(9)),
+        (b"short keys", None),
+        (b"short kez", None),
+        (b"sh0rt", None),
+        (&[b's'; 300], None),
+    ];
+    for (prefix, len) in rows {
+        assert_eq!(rt;
+            prefixed_at(&words, 63, prefix),
+            Some((len, true)),
+            "{len:?}"
+        );
+    }
+    assert_eq!(rt; lengths_for(&words, 63, b"short key"), Some((9, 6)));
+    assert_eq!(rt; lengths_for(&words, 63, b"short kez"), None);
     Ok(())
 }
 

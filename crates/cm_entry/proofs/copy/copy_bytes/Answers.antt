@@ -1,47 +1,41 @@
-use Rattle.std.proofs.Common.{arith, ◌*◌, ◌/◌, ◌%◌, ◌∙◌, refl}
-use Rattle.cm_geo.proofs.AddressOrder.{segment_limit}
-use Rattle.cm_words.proofs.CallSequences.{loaded_more, loaded_none, loads_more_ok}
-use Rattle.cm_entry.proofs.SpanHashes.{inside_kept}
-use Rattle.cm_entry.proofs.SpanCopies.{copied_none, copied_rest, copied_whole, rest_last, rest_whole}
+use Rattle.std.proofs.Common.{arith, ◌≡◌, ◌*◌, ◌+◌, ◌∙◌, refl, subst}
+use Rattle.cm_words.proofs.CallSequences.{done_by, loaded_none, loaded_then, loads_then_err, then_call}
+use Rattle.cm_words.proofs.FittingLists.{reads_transitive}
+use Rattle.cm_words.specs.Effects.{Reads}
+use Rattle.cm_entry.proofs.LoadCounts.{answer_err}
+use Rattle.std.proofs.lemmas.Result.{IfOk-weaker}
+use Rattle.cm_entry.proofs.SpanCopies.{copied_none}
+use Rattle.cm_entry.specs.Progress.{IsCopySoFar}
 use Rattle.cm_entry.proofs.copy.copy_bytes.Goals as goal
 
-pub loop-i-init : goal.loop-i-init
-loop-i-init g c = record {
+pub loop-four-init : goal.loop-four-init
+loop-four-init g c = record {
   loaded = loaded_none g.M.Mem.seen g.M.Mem.same_rest c.args.mem.now (g.met.M.Mem.rest_reflexive _);
   events = omega arith;
   copied = copied_none (g.M.Mem.seen c.args.mem.now) c.args.span c.args.out.now;
   behind = refl;
 }
 
-pub overflow_add-span : goal.overflow_add-span
-overflow_add-span g c = omega (arith, segment_limit (g.M.Mem.seen c.args.mem.now).setting.geo, c.requires.span.inside.inside)
-
-pub loop-i-preserved : goal.loop-i-preserved
-loop-i-preserved g c = record {
-  loaded = loaded_more g.M.Mem.seen g.M.Mem.same_rest _ c.loop-i.mem _ _ (g.met.M.Mem.rest_transitive _ _ _) c.loop-i.invariant.loaded c.in_ok-word.ensures.loads;
-  events = omega (arith, c.loop-i.invariant.events, c.in_ok-word.ensures.loads.event.events);
-  copied = copied_whole (g.M.Mem.seen c.loop-i.mem) (g.M.Mem.seen c.load.new.self) c.args.span c.loop-i.out c.copy_from_slice.new.self c.to_le_bytes.result c.loop-i.i c.in_ok-word.word
-      c.loop-i.invariant.copied c.in_ok-word.ensures.loads.call.done c.in_ok-word.ensures.word c.requires.span.inside.inner
-      (inside_kept (g.M.Mem.seen c.args.mem.now) (g.M.Mem.seen c.loop-i.mem) (g.M.Mem.seen c.load.new.self) c.args.span c.loop-i.invariant.loaded.done c.in_ok-word.ensures.loads.call.done c.requires.span.inside)
-      (omega arith) (omega arith) c.to_le_bytes.ensures c.copy_from_slice.ensures.after;
-  behind = rest_whole c.loop-i.out c.copy_from_slice.new.self c.to_le_bytes.result (8 * c.loop-i.i) c.args.span.len c.in_ok-word.word (omega arith) (omega arith) c.to_le_bytes.ensures c.copy_from_slice.ensures.after ∙ c.loop-i.invariant.behind;
+pub loop-four-preserved : goal.loop-four-preserved
+loop-four-preserved g c = record {
+  loaded = loaded_then g.M.Mem.seen g.M.Mem.same_rest _ c.loop-four.mem c.copy_four.new.mem (g.met.M.Mem.rest_transitive _ _ _) c.loop-four.invariant.loaded
+      (done_by g.M.Mem.seen g.M.Mem.same_rest Reads Reads c.loop-four.mem c.copy_four.new.mem _ c.in_ok-copy_four.ensures.loads.loads);
+  events = omega (arith, c.loop-four.invariant.events, c.in_ok-copy_four.ensures.loads.count);
+  copied = subst (λ n. IsCopySoFar (g.M.Mem.seen c.copy_four.new.mem) c.args.span c.copy_four.new.out n) (let h : 4 * c.loop-four.four + 4 ≡ 4 * (c.loop-four.four + 1) = omega arith in h) c.in_ok-copy_four.ensures.copied;
+  behind = c.in_ok-copy_four.ensures.rest ∙ c.loop-four.invariant.behind;
 }
 
-pub overflow_add-span-2 : goal.overflow_add-span-2
-overflow_add-span-2 g c = omega (arith, segment_limit (g.M.Mem.seen c.args.mem.now).setting.geo, c.requires.span.inside.inside)
+pub returns-in_err-copy_four-clause-copied : goal.returns-in_err-copy_four-clause-copied
+returns-in_err-copy_four-clause-copied g c =
+    answer_err g.M.Mem.seen g.M.Mem.same_rest _ c.copy_four.new.mem c.from_residual.result c.from_residual.ensures.0
+    (loads_then_err g.M.Mem.seen g.M.Mem.same_rest _ c.loop-four.mem c.copy_four.new.mem _ c.from_residual.result c.from_residual.ensures.0 (g.met.M.Mem.rest_transitive _ _ _) c.loop-four.invariant.loaded c.in_err-copy_four.ensures.loads.loads) _ _
 
 pub returns-clause-copied : goal.returns-clause-copied
 returns-clause-copied g c = record {
   counted = record {
-    loads = loads_more_ok g.M.Mem.seen g.M.Mem.same_rest _ c.loop-i.mem c.load-2.new.self _ _ (g.met.M.Mem.rest_transitive _ _ _) c.loop-i.invariant.loaded c.in_ok-last.ensures.loads;
-    count = omega (arith, c.loop-i.invariant.events, c.in_ok-last.ensures.loads.event.events);
+    loads = then_call g.M.Mem.seen g.M.Mem.same_rest Reads Reads Reads Reads Reads _ c.loop-four.mem c.copy_on.new.mem c.copy_on.result (g.met.M.Mem.rest_transitive _ _ _) c.loop-four.invariant.loaded c.copy_on.ensures.copied.counted.loads
+        (reads_transitive _ _ _) (reads_transitive _ _ _);
+    count = IfOk-weaker c.copy_on.result _ _ (λ answer e. omega (arith, e, c.loop-four.invariant.events, c.loop-four.auto)) c.copy_on.ensures.copied.counted.count;
   };
-  answer = copied_rest (g.M.Mem.seen c.loop-i.mem) (g.M.Mem.seen c.load-2.new.self) c.args.span c.loop-i.out c.copy_from_slice-2.new.self c.to_le_bytes-2.result c.loop-i.i c.in_ok-last.last
-      c.loop-i.invariant.copied (omega arith) (omega arith) c.in_ok-last.ensures.loads.call.done c.in_ok-last.ensures.word c.requires.span.inside.inner
-      (inside_kept (g.M.Mem.seen c.args.mem.now) (g.M.Mem.seen c.loop-i.mem) (g.M.Mem.seen c.load-2.new.self) c.args.span c.loop-i.invariant.loaded.done c.in_ok-last.ensures.loads.call.done c.requires.span.inside)
-      (omega arith) c.to_le_bytes-2.ensures c.copy_from_slice-2.ensures.after;
+  answer = c.copy_on.ensures.copied.answer;
 }
-
-pub returns-clause-rest : goal.returns-clause-rest
-returns-clause-rest g c =
-    rest_last c.loop-i.out c.copy_from_slice-2.new.self c.to_le_bytes-2.result (8 * (c.args.span.len / 8)) (c.args.span.len % 8) c.args.span.len c.in_ok-last.last (omega arith) (omega arith) (omega arith) c.to_le_bytes-2.ensures c.copy_from_slice-2.ensures.after ∙ c.loop-i.invariant.behind

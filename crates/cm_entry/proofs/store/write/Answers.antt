@@ -28,7 +28,7 @@ overflow_add-at g c =
     omega (arith, room, segment_limit (g.M.Mem.seen c.args.mem.now).setting.geo)
 
 pub store_bytes-requires-clause-room : goal.store_bytes-requires-clause-room
-store_bytes-requires-clause-room g c = storable_key (g.M.Mem.seen c.args.mem.now) (g.M.Mem.seen c.store.new.self) c.args.geo.now c.args.place c.args.chunk c.chunk_at-at.result c.args.key.now c.args.value.now c.requires.writable c.requires.room c.in_ok-store.ensures.stores.call.done.kept c.chunk_at-at.ensures.value
+store_bytes-requires-clause-room g c = storable_key (g.M.Mem.seen c.args.mem.now) (g.M.Mem.seen c.store.new.self) c.args.geo.now c.args.place c.args.chunk c.chunk_at-at.result c.args.key.now c.args.value.now c.requires.writable c.requires.room c.in_ok-store.ensures.stores.call.done.keeps c.chunk_at-at.ensures.value
 
 pub store_bytes-requires-clause-allowed : goal.store_bytes-requires-clause-allowed
 store_bytes-requires-clause-allowed g c = may_key_words (g.M.Mem.seen c.args.mem.now) (g.M.Mem.seen c.store.new.self) c.chunk_at-at.result c.head_of-head.result c.args.key.now c.args.value.now c.head_of-head.ensures (subst (λ (n : ℕ). MayStoreAll (g.M.Mem.seen c.args.mem.now) (entry_stores n c.args.key.now c.args.value.now)) (sym c.chunk_at-at.ensures.value) c.requires.allowed) c.in_ok-store.ensures.stores.call.done
@@ -42,7 +42,7 @@ returns-in_err-over_key-clause-stores g c =
 pub store_value-requires-clause-room : goal.store_value-requires-clause-room
 store_value-requires-clause-room g c =
     storable_value (g.M.Mem.seen c.args.mem.now) (g.M.Mem.seen c.store_bytes.new.mem) c.args.geo.now c.args.place c.args.chunk c.chunk_at-at.result c.args.key.now c.args.value.now c.requires.writable c.requires.room
-    (keeps_transitive (g.M.Mem.seen c.args.mem.now) (g.M.Mem.seen c.store.new.self) (g.M.Mem.seen c.store_bytes.new.mem) c.in_ok-store.ensures.stores.call.done.kept c.in_ok-over_key.ensures.stores.done.kept) c.chunk_at-at.ensures.value
+    (keeps_transitive (g.M.Mem.seen c.args.mem.now) (g.M.Mem.seen c.store.new.self) (g.M.Mem.seen c.store_bytes.new.mem) c.in_ok-store.ensures.stores.call.done.keeps c.in_ok-over_key.ensures.stores.done.keeps) c.chunk_at-at.ensures.value
 
 pub store_value-requires-clause-so_far : goal.store_value-requires-clause-so_far
 store_value-requires-clause-so_far g c = so_far_is c.args.key.now c.args.value.now c.head_of-head.result c.hash-over_head.result c.in_ok-over_key.over_key c.head_of-head.ensures (c.hash-over_head.ensures ∙ ap hash c.to_le_bytes.ensures) c.in_ok-over_key.ensures.hash

@@ -21,7 +21,7 @@ returns-in_err-store_head g c =
     ends_err g.M.Mem.seen g.M.Mem.same_rest (λ old now. WritesEach old now (head_stores c.chunk_at-at.result c.head_of-head.result)) Reads (λ old now. Replaces old now c.args.geo.now c.args.place c.args.chunk c.args.key.now c.args.value.now) (λ old now. WritesPrefixEach old now (replacing_stores (chunk_at c.args.geo.now c.args.place c.args.chunk) c.args.key.now c.args.value.now)) _ c.store_head.new.mem _ c.from_residual.result c.from_residual.ensures.0 c.in_err-store_head.ensures (λ reads. prefix_each_none _ _ _ reads)
 
 pub store_value-requires-clause-room : goal.store_value-requires-clause-room
-store_value-requires-clause-room g c = storable_value (g.M.Mem.seen c.args.mem.now) (g.M.Mem.seen c.store_head.new.mem) c.args.geo.now c.args.place c.args.chunk c.chunk_at-at.result c.args.key.now c.args.value.now c.requires.writable c.requires.room c.in_ok-store_head.ensures.done.kept c.chunk_at-at.ensures.value
+store_value-requires-clause-room g c = storable_value (g.M.Mem.seen c.args.mem.now) (g.M.Mem.seen c.store_head.new.mem) c.args.geo.now c.args.place c.args.chunk c.chunk_at-at.result c.args.key.now c.args.value.now c.requires.writable c.requires.room c.in_ok-store_head.ensures.done.keeps c.chunk_at-at.ensures.value
 
 pub store_value-requires-clause-so_far : goal.store_value-requires-clause-so_far
 store_value-requires-clause-so_far g c = so_far_is c.args.key.now c.args.value.now c.head_of-head.result c.hash-over_head.result c.hash_words.result c.head_of-head.ensures (c.hash-over_head.ensures ∙ ap hash c.to_le_bytes.ensures) c.hash_words.ensures
