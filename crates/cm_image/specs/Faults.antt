@@ -7,5 +7,5 @@ Rose before now = min (before + 1) (2 ^ 64 - 1) ≤ now
 
 -- the count never falls, and a failure comes only where it rose
 pub record HasCause {T E : Type 0} (before now : ℕ) (result : Result T E) : Type 0 where
-  pub later : before ≤ now
+  pub rises : before ≤ now
   pub failed : OnErr result (Rose before now)

@@ -8,10 +8,14 @@ use std::rt::Files;
 /// The calls that fail.
 #[derive(Clone, Copy, Debug, PartialEq, Eq)]
 pub enum Broken {
+    /// Opening a file, for want of permission.
+    Open,
     Permissions,
     Write,
     Sync,
     Rename,
+    /// Bringing a folder to the disk.
+    FolderSync,
 }
 
 /// Files, of whose calls one kind fails.
@@ -29,10 +33,14 @@ pub struct BrokenFile<F: Drop> {
 }
 
 fn fails(broken: Broken, call: Broken) -> io::Result<()> {
-    if broken == call {
-        return Err(ErrorKind::StorageFull.into());
+    if broken != call {
+        return Ok(());
     }
-    Ok(())
+    let kind = match call {
+        Broken::Open => ErrorKind::PermissionDenied,
+        _ => ErrorKind::StorageFull,
+    };
+    Err(kind.into())
 }
 
 impl<F: Read + Drop> Read for BrokenFile<F> {
@@ -68,6 +76,9 @@ impl<F: OpenFile + Drop> OpenFile for BrokenFile<F> {
     }
 
     fn sync_all(&self) -> io::Result<()> {
+        if self.file.metadata()?.is_dir() {
+            fails(self.broken, Broken::FolderSync)?;
+        }
         fails(self.broken, Broken::Sync)?;
         self.file.sync_all()
     }
@@ -88,6 +99,7 @@ impl<R: Files + Drop> Files for BrokenDisk<R> {
     type Dir = R::Dir;
 
     fn open_file(&self, how: &OpenOptions, path: &str) -> io::Result<BrokenFile<R::File>> {
+        fails(self.broken, Broken::Open)?;
         let file = self.rt.open_file(how, path)?;
         Ok(BrokenFile {
             file,

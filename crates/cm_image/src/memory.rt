@@ -54,7 +54,7 @@ impl MapVault {
     pub fn put(&mut self, name: &str, bytes: &[u8]) -> Result<(), NoMemory>
         ensures set { OnOk result (files_in self.new name.now ≡ Some bytes.now) }
         ensures others { SameBut name.now (files_in self.old) (files_in self.new) }
-        ensures kept { OnErr result (SameFiles (files_in self.old) (files_in self.new)) }
+        ensures unchanged { OnErr result (SameFiles (files_in self.old) (files_in self.new)) }
         ensures calls { SameCalls self.old self.new }
         ensures faults { faults_in self.new ≡ faults_in self.old }
     {

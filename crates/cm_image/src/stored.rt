@@ -87,9 +87,9 @@ const PIECE: usize = 65_536;
 /// The map of an image that a vault holds. Takes memory, for the words alone. A file that ends before the size that
 /// the vault told is short.
 pub fn read_image<V: Vault>(alloc: Global, vault: &mut V, name: &str) -> Result<Words, ImageStop>
-    ensures told { V.tells vault.old → V.tells vault.new }
+    ensures tells { V.tells vault.old → V.tells vault.new }
     ensures files { V.tells vault.old → SameFiles (V.files vault.old) (V.files vault.new) }
-    ensures later { V.faults vault.old ≤ V.faults vault.new }
+    ensures rises { V.faults vault.old ≤ V.faults vault.new }
     ensures image { IfOk result
         (λ map. V.tells vault.old → HoldsImage (V.files vault.old name.now) map) }
     ensures cause { IfErr result
@@ -112,9 +112,9 @@ pub fn read_image<V: Vault>(alloc: Global, vault: &mut V, name: &str) -> Result<
 
 // The geometry of an image of this size.
 fn read_geo<V: Vault>(vault: &mut V, name: &str, size: u64) -> Result<Geo, ImageStop>
-    ensures told { V.tells vault.old → V.tells vault.new }
+    ensures tells { V.tells vault.old → V.tells vault.new }
     ensures files { V.tells vault.old → SameFiles (V.files vault.old) (V.files vault.new) }
-    ensures later { V.faults vault.old ≤ V.faults vault.new }
+    ensures rises { V.faults vault.old ≤ V.faults vault.new }
     ensures geo { IfOk result (λ geo. (size ≡ image_length geo)
         × (V.tells vault.old → BeginsImage (V.files vault.old name.now) geo)) }
     ensures cause { IfErr result
@@ -137,9 +137,9 @@ fn read_words<V: Vault>(
     name: &str,
     geo: &Geo,
 ) -> Result<Vec<u64>, ImageStop>
-    ensures told { V.tells vault.old → V.tells vault.new }
+    ensures tells { V.tells vault.old → V.tells vault.new }
     ensures files { V.tells vault.old → SameFiles (V.files vault.old) (V.files vault.new) }
-    ensures later { V.faults vault.old ≤ V.faults vault.new }
+    ensures rises { V.faults vault.old ≤ V.faults vault.new }
     ensures count { IfOk result (λ words. length words.items ≡ words_in_map geo.now) }
     ensures words { IfOk result (λ words. V.tells vault.old
         → word_bytes words.items ≡ take (8 * words_in_map geo.now) (bytes_from (V.files vault.old name.now) HEADER)) }
@@ -168,9 +168,9 @@ fn read_piece<V: Vault>(
     piece: &mut [u8],
 ) -> Result<(), ImageStop>
     requires { from + length piece.old < 2 ^ 63 }
-    ensures told { V.tells vault.old → V.tells vault.new }
+    ensures tells { V.tells vault.old → V.tells vault.new }
     ensures files { V.tells vault.old → SameFiles (V.files vault.old) (V.files vault.new) }
-    ensures later { V.faults vault.old ≤ V.faults vault.new }
+    ensures rises { V.faults vault.old ≤ V.faults vault.new }
     ensures piece { OnOk result (V.tells vault.old
         → piece.new ≡ take (length piece.old) (bytes_from (V.files vault.old name.now) from)) }
     ensures cause { IfErr result
@@ -195,11 +195,11 @@ pub fn write_image<V: Vault>(
     name: &str,
     words: &Words,
 ) -> Result<(), ImageWriteStop>
-    ensures told { V.tells vault.old → V.tells vault.new }
+    ensures tells { V.tells vault.old → V.tells vault.new }
     ensures written { OnOk result
         (V.tells vault.old → V.files vault.new name.now ≡ Some (image_bytes words.now)) }
     ensures others { V.tells vault.old → SameBut name.now (V.files vault.old) (V.files vault.new) }
-    ensures later { V.faults vault.old ≤ V.faults vault.new }
+    ensures rises { V.faults vault.old ≤ V.faults vault.new }
     ensures cause { IfErr result (StopsWrite vault.old vault.new (V.faults vault.old) (V.faults vault.new)) }
 {
     let bytes = bytes_of(alloc, words)?;

@@ -261,14 +261,23 @@ fn a_write_that_fails_is_a_fault(rt: HostRuntime) -> Result<(), Fail> {
     Ok(())
 }
 
-// A vault that tells a size of its own, gives a few bytes at a time, and fails from a place on.
+// A vault that tells a size of its own or none, gives a few bytes at a time, fails from a place on, and is never
+// written.
 #[derive(Drop)]
 struct Stub<'a> {
     bytes: &'a [u8],
-    size: u64,
+    size: Option<u64>,
     step: usize,
     broken: u64,
     faults: u64,
+}
+
+impl Stub<'_> {
+    // Counts a call that failed.
+    fn fail<T>(&mut self) -> Result<T, Failed> {
+        self.faults = self.faults.saturating_add(1);
+        Err(Failed)
+    }
 }
 
 impl Vault for Stub<'_> {
@@ -279,13 +288,15 @@ impl Vault for Stub<'_> {
     ghost faults = { λ v. v.faults };
 
     fn size(&mut self, _name: &str) -> Result<Option<u64>, Failed> {
-        Ok(Some(self.size))
+        match self.size {
+            Some(size) => Ok(Some(size)),
+            None => self.fail(),
+        }
     }
 
     fn read_at(&mut self, _name: &str, from: u64, buf: &mut [u8]) -> Result<usize, Failed> {
         if from >= self.broken {
-            self.faults = self.faults.saturating_add(1);
-            return Err(Failed);
+            return self.fail();
         }
         let start = (from as usize).min(self.bytes.len());
         let rest = &self.bytes[start..];
@@ -295,9 +306,30 @@ impl Vault for Stub<'_> {
     }
 
     fn write_whole(&mut self, _name: &str, _bytes: &[u8]) -> Result<(), Failed> {
-        self.faults = self.faults.saturating_add(1);
-        Err(Failed)
+        self.fail()
     }
+}
+
+#[test]
+fn a_vault_whose_every_call_fails(rt: HostRuntime) -> Result<(), Fail> {
+    let image = small_image(rt.alloc())?;
+    let map = image_of(rt.alloc(), image.as_slice())?;
+    let mut stub = Stub {
+        bytes: image.as_slice(),
+        size: None,
+        step: 5000,
+        broken: 0,
+        faults: 0,
+    };
+    assert_stop(&rt, &mut stub, "m", Some(ImageStop::Fault));
+    assert_eq!(rt; stub.faults, 1);
+    assert_fault(&rt, &mut stub, "m", &map);
+    assert_eq!(rt; stub.faults, 2);
+    // The size is told, and the first look at the file fails.
+    stub.size = Some(3208);
+    assert_stop(&rt, &mut stub, "m", Some(ImageStop::Fault));
+    assert_eq!(rt; stub.faults, 3);
+    Ok(())
 }
 
 #[test]
@@ -331,7 +363,7 @@ fn a_file_that_changes_while_it_is_read(rt: HostRuntime) -> Result<(), Fail> {
         assert!(rt; len <= image.len());
         let mut stub = Stub {
             bytes: &image[..len],
-            size,
+            size: Some(size),
             step,
             broken,
             faults: 0,
@@ -448,6 +480,52 @@ fn what_may_not_be_written_is_a_fault(rt: HostRuntime) -> Result<(), Fail> {
     Ok(())
 }
 
+// A vault over a folder, in which one kind of call fails.
+fn broken_vault(rt: &HostRuntime, broken: Broken) -> io::Result<DirVault<BrokenDisk<HostRuntime>>> {
+    let disk = BrokenDisk {
+        rt: rt.clone()?,
+        broken,
+    };
+    Ok(DirVault::new(rt.alloc(), disk))
+}
+
+#[test]
+fn a_file_that_may_not_be_opened_is_a_fault_and_not_missing(rt: HostRuntime) -> Result<(), Fail> {
+    new_folder(&rt, rt.alloc(), "cm_image_forbidden")?;
+    let name = "cm_image_forbidden/m";
+    let image = small_image(rt.alloc())?;
+    let map = image_of(rt.alloc(), image.as_slice())?;
+    fs::write(&rt, name, image.as_slice())?;
+    let mut vault = broken_vault(&rt, Broken::Open)?;
+    assert_stop(&rt, &mut vault, name, Some(ImageStop::Fault));
+    assert!(rt; vault.read_at(name, 0, &mut [0; 64]).is_err());
+    assert_fault(&rt, &mut vault, name, &map);
+    assert_stop(
+        &rt,
+        &mut vault,
+        "cm_image_forbidden/absent",
+        Some(ImageStop::Missing),
+    );
+    assert_file(&rt, name, image.as_slice())?;
+    fs::remove_dir_all(&rt, "cm_image_forbidden")?;
+    Ok(())
+}
+
+#[test]
+fn a_folder_that_cant_be_brought_to_the_disk_is_a_fault_and_the_new_file_stands(
+    rt: HostRuntime,
+) -> Result<(), Fail> {
+    new_folder(&rt, rt.alloc(), "cm_image_unsynced")?;
+    let name = "cm_image_unsynced/m";
+    fs::write(&rt, name, b"old".as_slice())?;
+    let mut vault = broken_vault(&rt, Broken::FolderSync)?;
+    assert!(rt; vault.write_whole(name, b"new".as_slice()).is_err());
+    assert_file(&rt, name, b"new".as_slice())?;
+    assert_eq!(rt; fs::read_dir(&rt, "cm_image_unsynced")?.count(), 1);
+    fs::remove_dir_all(&rt, "cm_image_unsynced")?;
+    Ok(())
+}
+
 #[test]
 fn after_a_step_that_fails_the_old_file_stands(rt: HostRuntime) -> Result<(), Fail> {
     new_folder(&rt, rt.alloc(), "cm_image_broken")?;
@@ -460,11 +538,7 @@ fn after_a_step_that_fails_the_old_file_stands(rt: HostRuntime) -> Result<(), Fa
         Broken::Sync,
         Broken::Rename,
     ] {
-        let disk = BrokenDisk {
-            rt: rt.clone()?,
-            broken,
-        };
-        let mut vault = DirVault::new(rt.alloc(), disk);
+        let mut vault = broken_vault(&rt, broken)?;
         assert!(rt; vault.write_whole(name, b"new".as_slice()).is_err());
     }
     assert_file(&rt, name, b"kept".as_slice())?;

@@ -13,13 +13,13 @@ loop-at-preserved g c =
     let file = g.V.Vault.files c.args.vault.now c.args.name.now in
     record {
       within = search rules;
-      later = omega (arith, read.cause.later, kept.later);
-      told = λ tells. read.told (kept.told tells);
-      same = λ tells name. read.files (kept.told tells) name ∙ kept.same tells name;
+      rises = omega (arith, read.cause.rises, kept.rises);
+      tells = λ tells. read.tells (kept.tells tells);
+      same = λ tells name. read.files (kept.tells tells) name ∙ kept.same tells name;
       prefix = λ tells.
           let place : bytes_from (g.V.Vault.files c.loop-at.vault c.args.name.now) (c.args.from + at) ≡ drop at (bytes_from file c.args.from) =
           ap (λ (f : Option (List ℕ)). bytes_from f (c.args.from + at)) (kept.same tells c.args.name.now) ∙ bytes_from-more file c.args.from at in
           let more : ReadsPrefix (drop at (bytes_from file c.args.from)) count part =
-          subst (λ (bytes : List ℕ). ReadsPrefix bytes count part) place (read.bytes (kept.told tells)) in
+          subst (λ (bytes : List ℕ). ReadsPrefix bytes count part) place (read.bytes (kept.tells tells)) in
           prefix-more (bytes_from file c.args.from) c.loop-at.piece part at count kept.within read.bound.0 (kept.prefix tells) more;
     }

@@ -6,8 +6,8 @@ use Rattle.cm_image.proofs.stored.read_words.Given as goal
 abbrev pub invariant-loop-piece : goal.invariant-loop-piece
 invariant-loop-piece g l = record {
   within : vec_len l.words ≤ l.count;
-  later : g.V.Vault.faults l.fn.vault ≤ g.V.Vault.faults l.vault;
-  told : g.V.Vault.tells l.fn.vault → g.V.Vault.tells l.vault;
+  rises : g.V.Vault.faults l.fn.vault ≤ g.V.Vault.faults l.vault;
+  tells : g.V.Vault.tells l.fn.vault → g.V.Vault.tells l.vault;
   same : g.V.Vault.tells l.fn.vault → SameFiles (g.V.Vault.files l.fn.vault) (g.V.Vault.files l.vault);
   words : g.V.Vault.tells l.fn.vault → word_bytes l.words.items ≡ take (8 * vec_len l.words) (bytes_from (g.V.Vault.files l.fn.vault l.name) 64);
 }

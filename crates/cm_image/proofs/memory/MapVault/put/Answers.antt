@@ -8,9 +8,9 @@ pub returns-in_err-insert-clause-others : goal.returns-in_err-insert-clause-othe
 unfolding files_in
 returns-in_err-insert-clause-others c = λ name other. grind (arith, text_keys)
 
-pub returns-in_err-insert-clause-kept : goal.returns-in_err-insert-clause-kept
+pub returns-in_err-insert-clause-unchanged : goal.returns-in_err-insert-clause-unchanged
 unfolding files_in
-returns-in_err-insert-clause-kept c =
+returns-in_err-insert-clause-unchanged c =
     let stop = err_from_is_err_and c.from_residual-in_err-insert.result c.from_residual-in_err-insert.ensures.1 in
     rw stop.1 (λ name. grind (arith, text_keys))
 
