@@ -5,8 +5,6 @@ mod cause;
 mod laws;
 #[cfg(test)]
 mod tests;
-#[cfg(test)]
-mod tests_reading;
 
 pub use cause::Cause;
 pub use laws::{recovery_keeps_what_stood, words_are_torn};

@@ -3,8 +3,8 @@
 //! A segment has one or two tiers of 64 chunks of four words. The keys a, ba, bba and bbba all begin
 //! their search at slot 12.
 
-use crate::tests_reading::{At, Change, Entry, Segment};
 use cm_geo::Geo;
+use cm_reading::{At, Change, Entry, Segment};
 use std::alloc::Global;
 use std::test::Fail;
 
@@ -83,7 +83,7 @@ const WITH_Z: [(At, u64); 7] = [
 struct Trial<'a> {
     tiers: u32,
     first: &'a [(At, u64)],
-    change: Change<'a>,
+    change: Change<'a, 'a>,
     stores: &'a [(At, u64)],
 }
 

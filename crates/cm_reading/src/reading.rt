@@ -1,6 +1,4 @@
-//! Which words rest and which are torn: a second reading of the definitions, which runs.
-//!
-//! Tiers have 64 chunks, so a tier has one word of bits.
+//! Which words rest and which are torn, as a test asks it.
 
 use cm_geo::{Geo, hash, hash_byte};
 use std::alloc::{AllocError, Global};
@@ -116,8 +114,8 @@ fn word_of(bytes: &[u8]) -> u64 {
 
 /// A change of one key, beside the entries of others.
 #[derive(Clone, Copy)]
-pub struct Change<'a> {
-    pub others: &'a [Entry<'a>],
+pub struct Change<'a, 'b> {
+    pub others: &'b [Entry<'a>],
     pub old: Option<Entry<'a>>,
     pub new: Option<Entry<'a>>,
     pub in_place: bool,
@@ -125,7 +123,7 @@ pub struct Change<'a> {
     pub chains: [&'a [u32]; 2],
 }
 
-impl Change<'_> {
+impl Change<'_, '_> {
     /// Whether a slot's word at a place points to one of its entries.
     fn has_slot(&self, geo: &Geo, place: u32, word: u64) -> bool {
         self.others
@@ -154,6 +152,15 @@ impl Segment {
         Ok(segment)
     }
 
+    /// These words.
+    pub fn with_words(alloc: Global, geo: Geo, words: &[u64]) -> Result<Segment, AllocError> {
+        Ok(Segment {
+            geo,
+            words: words.to_vec(alloc)?,
+        })
+    }
+
+    /// Sets a word.
     pub fn store(&mut self, at: At, word: u64) {
         if let Some(address) = at.address(&self.geo)
             && let Some(old) = self.words.get_mut(address as usize)
@@ -162,7 +169,8 @@ impl Segment {
         }
     }
 
-    fn word(&self, at: At) -> u64 {
+    /// A word; 0 where this geometry doesn't have it.
+    pub fn word(&self, at: At) -> u64 {
         let Some(address) = at.address(&self.geo) else {
             return 0;
         };
@@ -325,7 +333,7 @@ impl Segment {
     }
 
     /// Whether the words are torn for a change, and the chain keeps the allowance.
-    fn is_torn(&self, change: &Change) -> bool {
+    pub fn is_torn(&self, change: &Change) -> bool {
         let [before, after] = change.chains;
         let chain = if self.has_chain(before) {
             before
