@@ -1,0 +1,10 @@
+use Rattle.std.proofs.Common.{rules}
+use Rattle.cm_lock.proofs.HeldEvents.{lock_inside}
+use Rattle.cm_lock.proofs.LevelEvents.{lowers_to_read}
+use Rattle.cm_lock.proofs.Numbering.{live_number}
+use Rattle.cm_lock.proofs.table.SegTable.subtract_to_read.Goals as goal
+
+pub fetch_sub-requires : goal.fetch_sub-requires
+fetch_sub-requires c =
+    let key = c.args.self.now.table.shared.key in
+    (search rules, lock_inside key.geo _ c.args.self.now.wide, lowers_to_read key _ _ c.args.seat.now.me (live_number c.args.seat.now.me.0.own.number c.requires.live) c.requires.level)

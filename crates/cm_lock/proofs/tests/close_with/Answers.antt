@@ -1,0 +1,14 @@
+use Rattle.std.proofs.Common.{◌≡◌, ℕ, List, [], ◌∷◌, Option, Some, refl, sym, ap, ◌∙◌, subst, arith}
+use Rattle.cm_words.specs.declared.peek.FoundWord.{FoundWord}
+use Rattle.cm_words.specs.Peeks.{HasFound}
+use Rattle.cm_plain.specs.Slots.{word_at}
+use Rattle.cm_plain.specs.declared.reply.Reply.{Reply}
+use Rattle.cm_plain.specs.declared.reply.Reply.TheVariants.{Count}
+use Rattle.cm_lock.proofs.Trials.{one_found}
+use Rattle.cm_lock.proofs.tests.close_with.Goals as goal
+
+pub close_round-requires-clause-right : goal.close_round-requires-clause-right
+close_round-requires-clause-right g c round open_is words state are found represents =
+    let opened = c.requires.found in
+    let has = one_found 2 c.args.entries opened.first round words (sym open_is ∙ opened.round) found in
+    (refl, ap (λ (n : ℕ). Count n) (sym has ∙ represents.count))
