@@ -18,7 +18,7 @@ const LONGEST_LINE: usize = 36;
 // What stands behind the line's number in the refusal of a script.
 fn cause_end(cause: LineCause) -> &'static str
     ensures text { result.now ≡ codes "," ++ cause_word cause ++ codes "\n" }
-    ensures short { length result.now ≤ 11 }
+    ensures length_limit { length result.now ≤ 11 }
 {
     match cause {
         LineCause::Csv => ",csv\n",

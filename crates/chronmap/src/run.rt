@@ -56,7 +56,7 @@ fn final_map(alloc: Global, segment: &PlainSegment) -> Result<Vec<MapLine>, NoMe
 /// may be chained, and reports the answers and the final map. Takes memory.
 pub fn run_script(alloc: Global, geo: &Geo, script: &Script) -> Result<Report, NoMemory>
     requires one_segment { geo.now.segments ≡ 1 }
-    requires kept { IsFor geo.now script.now }
+    requires for_geo { IsFor geo.now script.now }
     ensures { IfOk result (Explained geo.now (λ segment. one_tier) (λ segment. 0) script.now) }
 {
     let mut segment = PlainSegment::new(alloc, geo, SEGMENT)?;

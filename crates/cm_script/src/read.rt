@@ -27,7 +27,7 @@ const MAX_FIELDS: usize = 5;
 /// the order of `LineCause`. `NoMemory` may come at any text.
 pub fn read_script(alloc: Global, bytes: &[u8], geo: &Geo) -> Result<Script, ScriptStop>
     ensures ok { IfOk result (λ s. script_of geo.now bytes.now ≡ Ok s) }
-    ensures kept { IfOk result (IsFor geo.now) }
+    ensures for_geo { IfOk result (IsFor geo.now) }
     ensures err { IfErr result (StopsScript geo.now bytes.now) }
 {
     if bytes.len() > MAX_SCRIPT_BYTES {

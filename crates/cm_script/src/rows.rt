@@ -34,7 +34,8 @@ pub(crate) fn read_rows(alloc: Global, text: &[u8]) -> Result<Vec<ByteRecord>, R
         let Ok(row) = row else {
             return Err(RowsStop::NoMemory);
         };
-        if rows.len() == MAX_SCRIPT_LINES {
+        let is_full = rows.len() == MAX_SCRIPT_LINES;
+        if is_full {
             return Err(RowsStop::TooLong);
         }
         if rows.push(row).is_err() {

@@ -49,8 +49,8 @@ loop-row-preserved c =
       reached = rw (items, map-append fields_of c.loop-row.rows.items (c.in-Ok.row ∷ [])) more.2;
     }
 
-pub returns-then-len-eq-MAX_SCRIPT_LINES-clause-too_long : goal.returns-then-len-eq-MAX_SCRIPT_LINES-clause-too_long
-returns-then-len-eq-MAX_SCRIPT_LINES-clause-too_long c _ =
+pub returns-then-is_full-clause-too_long : goal.returns-then-is_full-clause-too_long
+returns-then-is_full-clause-too_long c _ =
     let inv = c.loop-row.invariant in
     let step = rw (c.in-Some.is, c.in-Ok.is) at ((c.next.ensures.steps inv.turns inv.untrimmed).0 inv.ready) in
     let rows = map fields_of c.loop-row.rows.items in
