@@ -272,14 +272,6 @@ struct Stub<'a> {
     faults: u64,
 }
 
-impl Stub<'_> {
-    // Counts a call that failed.
-    fn fail<T>(&mut self) -> Result<T, Failed> {
-        self.faults = self.faults.saturating_add(1);
-        Err(Failed)
-    }
-}
-
 impl Vault for Stub<'_> {
     ghost tells = { λ _. ⊥ };
 
@@ -290,13 +282,17 @@ impl Vault for Stub<'_> {
     fn size(&mut self, _name: &str) -> Result<Option<u64>, Failed> {
         match self.size {
             Some(size) => Ok(Some(size)),
-            None => self.fail(),
+            None => {
+                self.faults = self.faults.saturating_add(1);
+                Err(Failed)
+            }
         }
     }
 
     fn read_at(&mut self, _name: &str, from: u64, buf: &mut [u8]) -> Result<usize, Failed> {
         if from >= self.broken {
-            return self.fail();
+            self.faults = self.faults.saturating_add(1);
+            return Err(Failed);
         }
         let start = (from as usize).min(self.bytes.len());
         let rest = &self.bytes[start..];
@@ -306,7 +302,8 @@ impl Vault for Stub<'_> {
     }
 
     fn write_whole(&mut self, _name: &str, _bytes: &[u8]) -> Result<(), Failed> {
-        self.fail()
+        self.faults = self.faults.saturating_add(1);
+        Err(Failed)
     }
 }
 
