@@ -9,6 +9,7 @@ pub mod VerdictCases
 pub mod EntryParts
 pub mod Verdicts
 pub mod Packing
+pub mod ZeroBytes
 pub mod WordStores
 pub mod StoredEntries
 pub mod PartialWrites

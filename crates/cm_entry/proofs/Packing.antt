@@ -75,18 +75,14 @@ padded_first bytes nonzero = ⊎_elim (within_limit bytes nonzero) (long bytes) 
     none_padded : padded [] ≡ []
     none_padded = refl
 
-    append_none : (xs : List ℕ) → xs ++ [] ≡ xs
-    append_none [] = refl
-    append_none (x ∷ xs) = ap (λ (ys : List ℕ). x ∷ ys) (append_none xs)
-
     within_limit : (bytes : List ℕ) → 0 < length bytes → length bytes < 8 → padded bytes ≡ padded_word (take 8 bytes) ++ padded (drop 8 bytes)
     within_limit bytes nonzero below =
-        rw (take_all 8 bytes (omega arith), drop_all 8 bytes (omega arith), append_none (padded_word bytes))
+        rw (take_all 8 bytes (omega arith), drop_all 8 bytes (omega arith), append-nil (padded_word bytes))
         (ap (λ (zeros : List ℕ). bytes ++ zeros) (zeros_same (8 * parts_for 8 (length bytes) - length bytes) (8 - length bytes) (omega arith)))
 
     long : (bytes : List ℕ) → 8 ≤ length bytes → padded bytes ≡ padded_word (take 8 bytes) ++ padded (drop 8 bytes)
     long bytes enough =
-        let first : padded_word (take 8 bytes) ≡ take 8 bytes = ap (λ (zeros : List ℕ). take 8 bytes ++ zeros) (zeros_same (8 - length (take 8 bytes)) 0 (let l = length-take-le 8 bytes enough in omega (arith, l))) ∙ append_none (take 8 bytes) in
+        let first : padded_word (take 8 bytes) ≡ take 8 bytes = ap (λ (zeros : List ℕ). take 8 bytes ++ zeros) (zeros_same (8 - length (take 8 bytes)) 0 (let l = length-take-le 8 bytes enough in omega (arith, l))) ∙ append-nil (take 8 bytes) in
         let rest : length (drop 8 bytes) ≡ length bytes - 8 = length-drop 8 bytes in
         let zeros : ◌≡◌ {A = List ℕ} (replicate (8 * parts_for 8 (length bytes) - length bytes) 0) (replicate (8 * parts_for 8 (length (drop 8 bytes)) - length (drop 8 bytes)) 0) = zeros_same _ _ (omega (arith, rest)) in
         ap (λ (zs : List ℕ). bytes ++ zs) zeros

@@ -1,5 +1,6 @@
 -- The stores of an entry, and what they leave (own).
 use Rattle.std.specs.Prelude.{ℕ, ◌≡◌, ◌+◌, ◌<◌, ◌≤◌, ◌==◌, List, [], ◌∷◌, ◌++◌, length, if◌then◌else◌}
+use Rattle.cm_geo.specs.declared.limits.TheConstants.{MAX_VALUE_BYTES}
 use Rattle.cm_geo.specs.declared.geo.Geo.{Geo}
 use Rattle.cm_geo.specs.Addresses.{chunk_at, words_in_segment}
 use Rattle.cm_geo.specs.Need.{Fits, need, parts_for}
@@ -36,7 +37,7 @@ replacing_stores at key value words = head_stores at (head_of key value) words +
 pub record AreStorable (m : MemSeen) (at len : ℕ) : Type 0 where
   pub writable : m.setting.access ≡ Writable
   pub inner : 1 < at
-  pub within_limit : len ≤ 4096
+  pub within_limit : len ≤ MAX_VALUE_BYTES
   pub in_range : at + parts_for 8 len ≤ words_in_segment m.setting.geo
 
 -- and the words of an entry that begins here

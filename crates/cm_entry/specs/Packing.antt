@@ -1,5 +1,6 @@
 -- How bytes are packed into words of 64 bits (own).
 use Rattle.std.specs.Prelude.{ℕ, ◌-◌, ◌*◌, ◌<◌, ◌≤◌, List, ◌++◌, length, map, take, drop, replicate, fold}
+use Rattle.cm_geo.specs.declared.limits.TheConstants.{MAX_KEY_BYTES, MAX_VALUE_BYTES}
 use Rattle.std.specs.List.{range_with_len}
 use Rattle.std.specs.Int.{from_le_bytes, w64}
 use Rattle.cm_geo.specs.Hash.{hash_byte}
@@ -23,13 +24,13 @@ words_of bytes = map (λ number. word_of (part_of bytes number)) (range_with_len
 
 -- the number of one of the words of at most 4096 bytes
 pub record IsWordNumber (bytes : List ℕ) (number : ℕ) : Type 0 where
-  pub within_limit : length bytes ≤ 4096
+  pub within_limit : length bytes ≤ MAX_VALUE_BYTES
   pub low : number < parts_for 8 (length bytes)
 
 -- a key and a value that are not too long
 pub record AreShort (key value : List ℕ) : Type 0 where
-  pub key_short : length key ≤ 256
-  pub value_short : length value ≤ 4096
+  pub key_short : length key ≤ MAX_KEY_BYTES
+  pub value_short : length value ≤ MAX_VALUE_BYTES
 
 -- a hash that goes on over bytes
 unfoldable pub hash_on : ℕ → List ℕ → ℕ

@@ -1,5 +1,6 @@
 -- Keys that begin with a prefix (own).
 use Rattle.std.specs.Prelude.{ℕ, ◌≡◌, ◌≢◌, ◌≤◌, Bool, true, false, List, [], ◌∷◌, Result, Ok, Err, length, take, drop, Option, IfSome, MatchOption}
+use Rattle.cm_geo.specs.declared.limits.TheConstants.{MAX_KEY_BYTES}
 use Rattle.cm_geo.specs.declared.geo.Geo.{Geo}
 use Rattle.cm_plain.specs.declared.reply.Pair.{Pair}
 use Rattle.cm_plain.specs.Readings.{entry, reading_at}
@@ -37,7 +38,7 @@ pub record IsPrefixedKey (prefix key out : List ℕ) (len : ℕ) : Type 0 where
 
 -- the key of each entry that may be read at a chunk begins with the prefix, and is copied; or it doesn't
 pub record IsKeyCopyIf (m : MemSeen) (geo : Geo) (place chunk : ℕ) (prefix out : List ℕ) (found : Option ℕ) : Type 0 where
-  pub inside : IfSome found (λ len. (length prefix ≤ len) × (len ≤ 256))
+  pub inside : IfSome found (λ len. (length prefix ≤ len) × (len ≤ MAX_KEY_BYTES))
   pub copied : (words : List ℕ) → FitsNotes m words → (pair : Pair) → reading_at geo words place chunk ≡ entry pair
       → MatchOption found (has_prefix prefix pair.key ≡ false) (IsPrefixedKey prefix pair.key out)
 

@@ -1,5 +1,6 @@
 -- The bytes that stand in the words of a segment (own).
 use Rattle.std.specs.Prelude.{ℕ, ◌≡◌, ◌≢◌, ◌+◌, ◌<◌, ◌≤◌, ◌^◌, List, Result, IfOk, length, take, drop}
+use Rattle.cm_geo.specs.declared.limits.TheConstants.{MAX_KEY_BYTES, MAX_VALUE_BYTES}
 use Rattle.cm_geo.specs.declared.geo.Geo.{Geo}
 use Rattle.cm_geo.specs.Addresses.{chunk_at, words_in_segment}
 use Rattle.cm_geo.specs.Need.{parts_for}
@@ -22,7 +23,7 @@ bytes_in words span = bytes_from words span.at span.len (parts_for 8 span.len)
 -- the words of a span are words of the segment behind the lock word and the change number
 pub record IsInside (geo : Geo) (span : Span) : Type 0 where
   pub inner : 1 < span.at
-  pub within_limit : span.len ≤ 4096
+  pub within_limit : span.len ≤ MAX_VALUE_BYTES
   pub inside : span.at + parts_for 8 span.len ≤ words_in_segment geo
 
 -- the words of a span may be loaded
@@ -34,15 +35,15 @@ pub record IsReadableSpan (m : MemSeen) (span : Span) : Type 0 where
 pub record AreReadable (m : MemSeen) (at key_len value_len : ℕ) : Type 0 where
   pub not_closed : m.setting.access ≢ Closed
   pub inner : 1 < at
-  pub key_short : key_len ≤ 256
-  pub value_short : value_len ≤ 4096
+  pub key_short : key_len ≤ MAX_KEY_BYTES
+  pub value_short : value_len ≤ MAX_VALUE_BYTES
   pub inside : at + parts_for 8 key_len + parts_for 8 value_len ≤ words_in_segment m.setting.geo
 
 -- a span that begins here ends far below the limit of addresses
 pub record IsSpanStart (at most : ℕ) : Type 0 where
   pub inner : 1 < at
   pub low : at < 2 ^ 31
-  pub most_short : most ≤ 4096
+  pub most_short : most ≤ MAX_VALUE_BYTES
 
 -- the span of so many bytes from an address on, where these are at most so many, and their words are words of the segment
 pub record IsSpanAt (geo : Geo) (at len most : ℕ) (span : Span) : Type 0 where

@@ -1,6 +1,7 @@
 //! Bytes in words of 64 bits.
 
 ghost use Rattle.std.specs.Prelude.{◌≡◌, ◌≤◌, length};
+ghost use Rattle.cm_geo.specs.declared.limits.TheConstants.{MAX_VALUE_BYTES};
 ghost use Rattle.cm_geo.specs.Need.{parts_for};
 ghost use Rattle.cm_plain.specs.Readings.{padded, head_of as head_in};
 ghost use Rattle.cm_entry.specs.Packing.{AreShort, IsWordNumber, hash_on, part_of, word_of as word_in};
@@ -9,7 +10,7 @@ use crate::hashing::hash_word;
 
 /// The words of these bytes, 8 bytes a word.
 pub(crate) fn words_for(bytes: &[u8]) -> u32
-    requires { length bytes.now ≤ 4096 }
+    requires { length bytes.now ≤ MAX_VALUE_BYTES }
     ensures { result ≡ parts_for 8 (length bytes.now) }
 {
     bytes.len().div_ceil(8) as u32
@@ -42,7 +43,7 @@ pub(crate) fn nth_word(bytes: &[u8], number: u32) -> u64
 
 /// A hash that goes on over the words of these bytes.
 pub(crate) fn hash_words(state: u64, bytes: &[u8]) -> u64
-    requires { length bytes.now ≤ 4096 }
+    requires { length bytes.now ≤ MAX_VALUE_BYTES }
     ensures { result ≡ hash_on state (padded bytes.now) }
 {
     let mut hash = state;

@@ -1,6 +1,7 @@
 //! Reading the entry that stands at a chunk.
 
 ghost use Rattle.std.specs.Prelude.{◌≡◌, ◌+◌, ◌≤◌, IfOk, IsSome, List, MatchOption, ℕ, length, min};
+ghost use Rattle.cm_geo.specs.declared.limits.TheConstants.{MAX_KEY_BYTES, MAX_VALUE_BYTES};
 ghost use Rattle.cm_geo.specs.Hash.{hash as hash_of};
 ghost use Rattle.cm_geo.specs.Need.{parts_for};
 ghost use Rattle.cm_plain.specs.declared.reply.Pair.{Pair};
@@ -45,7 +46,7 @@ pub fn lengths_if_key<M: Mem>(
 ) -> Result<Option<(u32, u32)>, Dead>
     requires readable { IsReadableChunk (M.seen mem.old) geo.now place chunk }
     ensures loads { LoadsAtMost M.seen M.same_rest (1 + parts_for 8 (length key.now)) mem.old mem.new result }
-    ensures short { IfOk result (λ lengths. IsSome lengths → length key.now ≤ 256) }
+    ensures short { IfOk result (λ lengths. IsSome lengths → length key.now ≤ MAX_KEY_BYTES) }
     ensures lengths { IfOk result (AreLengthsIf (M.seen mem.new) geo.now place chunk key.now) }
 {
     let (key_len, value_len) = lengths(mem, geo, place, chunk)?;
@@ -75,7 +76,7 @@ pub fn value_equals<M: Mem>(
 /// The hash of the key of the entry at a chunk.
 pub fn key_hash<M: Mem>(mem: &mut M, geo: &Geo, place: u32, chunk: u32) -> Result<u64, Dead>
     requires readable { IsReadableChunk (M.seen mem.old) geo.now place chunk }
-    ensures loads { LoadsAtMost M.seen M.same_rest (1 + parts_for 8 256) mem.old mem.new result }
+    ensures loads { LoadsAtMost M.seen M.same_rest (1 + parts_for 8 MAX_KEY_BYTES) mem.old mem.new result }
     ensures hash { IfOk result (λ number. (words : List ℕ) → FitsNotes (M.seen mem.new) words
         → (pair : Pair) → reading_at geo.now words place chunk ≡ entry pair → number ≡ hash_of pair.key) }
 {
@@ -94,10 +95,10 @@ pub fn read_key_into<M: Mem>(
     out: &mut [u8],
 ) -> Result<u32, Dead>
     requires readable { IsReadableChunk (M.seen mem.old) geo.now place chunk }
-    requires room { 256 ≤ length out.old }
+    requires room { MAX_KEY_BYTES ≤ length out.old }
     ensures loads { LoadsCounted M.seen M.same_rest (λ len. 1 + parts_for 8 len) mem.old mem.new result }
-    ensures key { IfOk result (IsPartCopy (M.seen mem.new) geo.now place chunk 256 (λ pair. pair.key) out.new) }
-    ensures rest { KeepsRest 256 out.old out.new result }
+    ensures key { IfOk result (IsPartCopy (M.seen mem.new) geo.now place chunk MAX_KEY_BYTES (λ pair. pair.key) out.new) }
+    ensures rest { KeepsRest MAX_KEY_BYTES out.old out.new result }
 {
     let span = key_span(mem, geo, place, chunk)?;
     copy_bytes(mem, span, out)?;
@@ -116,13 +117,13 @@ pub fn read_key_with_prefix<M: Mem>(
     out: &mut [u8],
 ) -> Result<Option<u32>, Dead>
     requires readable { IsReadableChunk (M.seen mem.old) geo.now place chunk }
-    requires room { 256 ≤ length out.old }
+    requires room { MAX_KEY_BYTES ≤ length out.old }
     ensures loads { Loads M.seen M.same_rest mem.old mem.new result }
     ensures count { IfOk result (λ found. MatchOption found
         ((M.seen mem.new).meter.events ≤ (M.seen mem.old).meter.events + 1 + parts_for 8 (length prefix.now))
         (λ len. (M.seen mem.new).meter.events ≡ (M.seen mem.old).meter.events + 1 + parts_for 8 len)) }
     ensures key { IfOk result (IsKeyCopyIf (M.seen mem.new) geo.now place chunk prefix.now out.new) }
-    ensures rest { KeepsRestIf 256 (min 256 (length prefix.now)) (λ len. len) out.old out.new result }
+    ensures rest { KeepsRestIf MAX_KEY_BYTES (min MAX_KEY_BYTES (length prefix.now)) (λ len. len) out.old out.new result }
 {
     let span = key_span(mem, geo, place, chunk)?;
     if copy_prefixed(mem, span, prefix, out)? {
@@ -141,10 +142,10 @@ pub fn read_value_into<M: Mem>(
     out: &mut [u8],
 ) -> Result<u32, Dead>
     requires readable { IsReadableChunk (M.seen mem.old) geo.now place chunk }
-    requires room { 4096 ≤ length out.old }
+    requires room { MAX_VALUE_BYTES ≤ length out.old }
     ensures loads { LoadsCounted M.seen M.same_rest (λ len. 1 + parts_for 8 len) mem.old mem.new result }
-    ensures value { IfOk result (IsPartCopy (M.seen mem.new) geo.now place chunk 4096 (λ pair. pair.value) out.new) }
-    ensures rest { KeepsRest 4096 out.old out.new result }
+    ensures value { IfOk result (IsPartCopy (M.seen mem.new) geo.now place chunk MAX_VALUE_BYTES (λ pair. pair.value) out.new) }
+    ensures rest { KeepsRest MAX_VALUE_BYTES out.old out.new result }
 {
     let span = value_span(mem, geo, place, chunk)?;
     copy_bytes(mem, span, out)?;

@@ -1,13 +1,14 @@
 //! Where the bytes of a key or a value stand.
 
 ghost use Rattle.std.specs.Prelude.{◌≡◌, ◌+◌, ◌<◌, IfOk, List, ℕ};
+ghost use Rattle.cm_geo.specs.declared.limits.TheConstants.{MAX_KEY_BYTES, MAX_VALUE_BYTES};
 ghost use Rattle.cm_geo.specs.Addresses.{chunk_at};
 ghost use Rattle.cm_words.specs.Memory.{FitsNotes};
 ghost use Rattle.cm_words.specs.Calls.{LoadsOnce};
 ghost use Rattle.cm_entry.specs.Loading.{IsReadableChunk};
 ghost use Rattle.cm_entry.specs.Spans.{AreLengths, AreLengthsAt, IsSpanAt, IsSpanStart, LoadsSpan};
 
-use cm_geo::Geo;
+use cm_geo::{Geo, MAX_KEY_BYTES, MAX_VALUE_BYTES};
 use cm_words::{Dead, Mem};
 
 /// So many bytes in the words from an address on, 8 a word.
@@ -52,15 +53,15 @@ fn span_at(geo: &Geo, at: u32, len: u32, most: u32) -> Span
 pub(crate) fn key_span_of(geo: &Geo, place: u32, chunk: u32, len: u32) -> Span
     requires place { place < geo.now.tiers }
     requires chunk { chunk < geo.now.chunks }
-    ensures { IsSpanAt geo.now (chunk_at geo.now place chunk + 2) len 256 result }
+    ensures { IsSpanAt geo.now (chunk_at geo.now place chunk + 2) len MAX_KEY_BYTES result }
 {
-    span_at(geo, geo.chunk_at(place, chunk) + 2, len, 256)
+    span_at(geo, geo.chunk_at(place, chunk) + 2, len, MAX_KEY_BYTES)
 }
 
 /// Where the key of the entry at a chunk stands.
 pub(crate) fn key_span<M: Mem>(mem: &mut M, geo: &Geo, place: u32, chunk: u32) -> Result<Span, Dead>
     requires { IsReadableChunk (M.seen mem.old) geo.now place chunk }
-    ensures { LoadsSpan M.seen M.same_rest geo.now place chunk 256 (λ pair. pair.key) mem.old mem.new result }
+    ensures { LoadsSpan M.seen M.same_rest geo.now place chunk MAX_KEY_BYTES (λ pair. pair.key) mem.old mem.new result }
 {
     let (key_len, _) = lengths(mem, geo, place, chunk)?;
     Ok(key_span_of(geo, place, chunk, key_len))
@@ -74,9 +75,9 @@ pub(crate) fn value_span<M: Mem>(
     chunk: u32,
 ) -> Result<Span, Dead>
     requires { IsReadableChunk (M.seen mem.old) geo.now place chunk }
-    ensures { LoadsSpan M.seen M.same_rest geo.now place chunk 4096 (λ pair. pair.value) mem.old mem.new result }
+    ensures { LoadsSpan M.seen M.same_rest geo.now place chunk MAX_VALUE_BYTES (λ pair. pair.value) mem.old mem.new result }
 {
     let (key_len, value_len) = lengths(mem, geo, place, chunk)?;
     let at = geo.chunk_at(place, chunk) + 2 + key_len.div_ceil(8);
-    Ok(span_at(geo, at, value_len, 4096))
+    Ok(span_at(geo, at, value_len, MAX_VALUE_BYTES))
 }

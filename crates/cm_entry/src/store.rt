@@ -12,9 +12,9 @@ ghost use Rattle.cm_words.specs.Calls.{IsWritable, Performs, StoresAll};
 ghost use Rattle.cm_entry.specs.Packing.{hash_on, words_of};
 ghost use Rattle.cm_entry.specs.EntryStores.{AreStorable, HasRoom, IsStorable, Replaces, entry_stores, head_stores, replacing_stores, stores_from, value_stores};
 
-use crate::hashing::hash_word;
+use crate::hashing::{hash_head, hash_word};
 use crate::pack::{hash_words, head_of, nth_word, words_for};
-use cm_geo::{Geo, hash};
+use cm_geo::Geo;
 use cm_words::{Dead, Mem};
 
 // Stores the words of bytes from an address on, and answers the hash that went on over them.
@@ -88,7 +88,7 @@ pub fn write<M: Mem>(
     let at = geo.chunk_at(place, chunk);
     let head = head_of(key, value);
     mem.store(at, head)?;
-    let over_head = hash(&head.to_le_bytes());
+    let over_head = hash_head(head);
     let over_key = store_bytes(mem, at + 2, key, over_head)?;
     store_value(mem, at, key, value, over_key)?;
     Ok(())
@@ -116,7 +116,7 @@ pub fn write_value<M: Mem>(
     let at = geo.chunk_at(place, chunk);
     let head = head_of(key, value);
     store_head(mem, at, head)?;
-    let over_head = hash(&head.to_le_bytes());
+    let over_head = hash_head(head);
     store_value(mem, at, key, value, hash_words(over_head, key))?;
     Ok(())
 }

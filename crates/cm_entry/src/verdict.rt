@@ -1,6 +1,7 @@
 //! Whether an entry stands at a chunk.
 
 ghost use Rattle.std.specs.Prelude.{◌≡◌, ◌+◌, ◌<◌, IfOk, MatchOption, List, ℕ, false, true};
+ghost use Rattle.cm_geo.specs.declared.limits.TheConstants.{MAX_KEY_BYTES, MAX_VALUE_BYTES};
 ghost use Rattle.cm_geo.specs.Need.{need, parts_for};
 ghost use Rattle.cm_plain.specs.Readings.{key_len, lengths_fit, value_len};
 ghost use Rattle.cm_words.specs.Memory.{FitsNotes};
@@ -8,8 +9,9 @@ ghost use Rattle.cm_entry.specs.Loading.{IsReadableChunk, LoadsAtMost};
 ghost use Rattle.cm_entry.specs.Verdicts.{IsVerdict};
 
 use crate::checksum::hash_entry;
+use crate::hashing::hash_head;
 use crate::span::halves;
-use cm_geo::{Geo, hash};
+use cm_geo::Geo;
 use cm_words::{Dead, Mem};
 
 /// What stands at a chunk: an entry with its lengths and its chunks, or the first thing that is wrong.
@@ -51,7 +53,7 @@ fn chunks_for(geo: &Geo, chunk: u32, head: u64) -> Option<u32>
 /// at first, then the checksum, then the padding.
 pub fn verify<M: Mem>(mem: &mut M, geo: &Geo, place: u32, chunk: u32) -> Result<Verdict, Dead>
     requires readable { IsReadableChunk (M.seen mem.old) geo.now place chunk }
-    ensures loads { LoadsAtMost M.seen M.same_rest (2 + parts_for 8 256 + parts_for 8 4096) mem.old mem.new result }
+    ensures loads { LoadsAtMost M.seen M.same_rest (2 + parts_for 8 MAX_KEY_BYTES + parts_for 8 MAX_VALUE_BYTES) mem.old mem.new result }
     ensures verdict { IfOk result (λ verdict. (words : List ℕ) → FitsNotes (M.seen mem.new) words
         → IsVerdict geo.now words place chunk (M.seen mem.old).meter.events (M.seen mem.new).meter.events verdict) }
 {
@@ -62,7 +64,7 @@ pub fn verify<M: Mem>(mem: &mut M, geo: &Geo, place: u32, chunk: u32) -> Result<
         return Ok(Verdict::Lengths);
     };
     let (key_len, value_len) = halves(head);
-    let start = hash(&head.to_le_bytes());
+    let start = hash_head(head);
     let entry = hash_entry(mem, at + 2, key_len, value_len, start)?;
     if entry.state != stored_checksum {
         return Ok(Verdict::Checksum);

@@ -45,7 +45,7 @@ store_value-requires-clause-room g c =
     (keeps_transitive (g.M.Mem.seen c.args.mem.now) (g.M.Mem.seen c.store.new.self) (g.M.Mem.seen c.store_bytes.new.mem) c.in_ok-store.ensures.stores.call.done.keeps c.in_ok-over_key.ensures.stores.done.keeps) c.chunk_at-at.ensures.value
 
 pub store_value-requires-clause-so_far : goal.store_value-requires-clause-so_far
-store_value-requires-clause-so_far g c = so_far_is c.args.key.now c.args.value.now c.head_of-head.result c.hash-over_head.result c.in_ok-over_key.over_key c.head_of-head.ensures (c.hash-over_head.ensures ∙ ap hash c.to_le_bytes.ensures) c.in_ok-over_key.ensures.hash
+store_value-requires-clause-so_far g c = so_far_is c.args.key.now c.args.value.now c.head_of-head.result c.hash_head-over_head.result c.in_ok-over_key.over_key c.head_of-head.ensures c.hash_head-over_head.ensures c.in_ok-over_key.ensures.hash
 
 pub store_value-requires-clause-allowed : goal.store_value-requires-clause-allowed
 store_value-requires-clause-allowed g c =

@@ -24,7 +24,7 @@ pub store_value-requires-clause-room : goal.store_value-requires-clause-room
 store_value-requires-clause-room g c = storable_value (g.M.Mem.seen c.args.mem.now) (g.M.Mem.seen c.store_head.new.mem) c.args.geo.now c.args.place c.args.chunk c.chunk_at-at.result c.args.key.now c.args.value.now c.requires.writable c.requires.room c.in_ok-store_head.ensures.done.keeps c.chunk_at-at.ensures.value
 
 pub store_value-requires-clause-so_far : goal.store_value-requires-clause-so_far
-store_value-requires-clause-so_far g c = so_far_is c.args.key.now c.args.value.now c.head_of-head.result c.hash-over_head.result c.hash_words.result c.head_of-head.ensures (c.hash-over_head.ensures ∙ ap hash c.to_le_bytes.ensures) c.hash_words.ensures
+store_value-requires-clause-so_far g c = so_far_is c.args.key.now c.args.value.now c.head_of-head.result c.hash_head-over_head.result c.hash_words.result c.head_of-head.ensures c.hash_head-over_head.ensures c.hash_words.ensures
 
 pub store_value-requires-clause-allowed : goal.store_value-requires-clause-allowed
 store_value-requires-clause-allowed g c = may_value_each (g.M.Mem.seen c.args.mem.now) (g.M.Mem.seen c.store_head.new.mem) c.chunk_at-at.result c.head_of-head.result c.args.key.now c.args.value.now c.head_of-head.ensures (subst (λ (n : ℕ). MayStoreEach (g.M.Mem.seen c.args.mem.now) (replacing_stores n c.args.key.now c.args.value.now)) (sym c.chunk_at-at.ensures.value) c.requires.allowed) c.in_ok-store_head.ensures.done

@@ -58,9 +58,9 @@ returns-then-entry-stored_checksum-clause-loads g c =
 
 pub returns-then-entry-stored_checksum-clause-verdict : goal.returns-then-entry-stored_checksum-clause-verdict
 returns-then-entry-stored_checksum-clause-verdict g c words fits = record {
-  verdict_is = verdict_checksum c.args.geo.now words c.args.place c.args.chunk c.in_ok-head.head c.in_ok-stored_checksum.stored_checksum c.hash-start.result c.in_ok-entry.entry
-      (read_of c.args.geo.now words c.args.place c.args.chunk c.in_ok-head.head c.in_ok-stored_checksum.stored_checksum c.hash-start.result c.chunk_at-at.result c.halves-key_len.result.0 c.halves-key_len.result.1 c.in_ok-entry.entry
-      (first_two (g.M.Mem.seen c.load.new.self) (g.M.Mem.seen c.load-2.new.self) c.args.geo.now c.args.place c.args.chunk c.chunk_at-at.result c.in_ok-head.head c.in_ok-stored_checksum.stored_checksum c.chunk_at-at.ensures.value c.in_ok-head.ensures.word c.in_ok-stored_checksum.ensures.loads.call.done c.in_ok-stored_checksum.ensures.word words (c.in_ok-entry.ensures.counted.loads.done.fits words fits)) c.in-Some.ensures.0 (rw c.to_le_bytes.ensures at c.hash-start.ensures) c.chunk_at-at.ensures.value c.halves-key_len.ensures.key_is c.halves-key_len.ensures.value_is (c.in_ok-entry.ensures.answer words fits))
+  verdict_is = verdict_checksum c.args.geo.now words c.args.place c.args.chunk c.in_ok-head.head c.in_ok-stored_checksum.stored_checksum c.hash_head-start.result c.in_ok-entry.entry
+      (read_of c.args.geo.now words c.args.place c.args.chunk c.in_ok-head.head c.in_ok-stored_checksum.stored_checksum c.hash_head-start.result c.chunk_at-at.result c.halves-key_len.result.0 c.halves-key_len.result.1 c.in_ok-entry.entry
+      (first_two (g.M.Mem.seen c.load.new.self) (g.M.Mem.seen c.load-2.new.self) c.args.geo.now c.args.place c.args.chunk c.chunk_at-at.result c.in_ok-head.head c.in_ok-stored_checksum.stored_checksum c.chunk_at-at.ensures.value c.in_ok-head.ensures.word c.in_ok-stored_checksum.ensures.loads.call.done c.in_ok-stored_checksum.ensures.word words (c.in_ok-entry.ensures.counted.loads.done.fits words fits)) c.in-Some.ensures.0 c.hash_head-start.ensures c.chunk_at-at.ensures.value c.halves-key_len.ensures.key_is c.halves-key_len.ensures.value_is (c.in_ok-entry.ensures.answer words fits))
       c.if-entry-stored_checksum.true;
   count = omega (arith, verdict_words_all c.args.geo.now words c.args.place c.args.chunk c.in_ok-head.head c.in_ok-stored_checksum.stored_checksum (first_two (g.M.Mem.seen c.load.new.self) (g.M.Mem.seen c.load-2.new.self) c.args.geo.now c.args.place c.args.chunk c.chunk_at-at.result c.in_ok-head.head c.in_ok-stored_checksum.stored_checksum c.chunk_at-at.ensures.value c.in_ok-head.ensures.word c.in_ok-stored_checksum.ensures.loads.call.done c.in_ok-stored_checksum.ensures.word words (c.in_ok-entry.ensures.counted.loads.done.fits words fits)) c.in-Some.ensures.0, c.in_ok-head.ensures.loads.event.events, c.in_ok-stored_checksum.ensures.loads.event.events, c.in_ok-entry.ensures.counted.count, c.halves-key_len.ensures.key_is, c.halves-key_len.ensures.value_is);
 }
@@ -74,9 +74,9 @@ returns-then-not-entry-clause-loads g c =
 
 pub returns-then-not-entry-clause-verdict : goal.returns-then-not-entry-clause-verdict
 returns-then-not-entry-clause-verdict g c words fits = record {
-  verdict_is = verdict_padding c.args.geo.now words c.args.place c.args.chunk c.in_ok-head.head c.in_ok-stored_checksum.stored_checksum c.hash-start.result c.in_ok-entry.entry
-      (read_of c.args.geo.now words c.args.place c.args.chunk c.in_ok-head.head c.in_ok-stored_checksum.stored_checksum c.hash-start.result c.chunk_at-at.result c.halves-key_len.result.0 c.halves-key_len.result.1 c.in_ok-entry.entry
-      (first_two (g.M.Mem.seen c.load.new.self) (g.M.Mem.seen c.load-2.new.self) c.args.geo.now c.args.place c.args.chunk c.chunk_at-at.result c.in_ok-head.head c.in_ok-stored_checksum.stored_checksum c.chunk_at-at.ensures.value c.in_ok-head.ensures.word c.in_ok-stored_checksum.ensures.loads.call.done c.in_ok-stored_checksum.ensures.word words (c.in_ok-entry.ensures.counted.loads.done.fits words fits)) c.in-Some.ensures.0 (rw c.to_le_bytes.ensures at c.hash-start.ensures) c.chunk_at-at.ensures.value c.halves-key_len.ensures.key_is c.halves-key_len.ensures.value_is (c.in_ok-entry.ensures.answer words fits))
+  verdict_is = verdict_padding c.args.geo.now words c.args.place c.args.chunk c.in_ok-head.head c.in_ok-stored_checksum.stored_checksum c.hash_head-start.result c.in_ok-entry.entry
+      (read_of c.args.geo.now words c.args.place c.args.chunk c.in_ok-head.head c.in_ok-stored_checksum.stored_checksum c.hash_head-start.result c.chunk_at-at.result c.halves-key_len.result.0 c.halves-key_len.result.1 c.in_ok-entry.entry
+      (first_two (g.M.Mem.seen c.load.new.self) (g.M.Mem.seen c.load-2.new.self) c.args.geo.now c.args.place c.args.chunk c.chunk_at-at.result c.in_ok-head.head c.in_ok-stored_checksum.stored_checksum c.chunk_at-at.ensures.value c.in_ok-head.ensures.word c.in_ok-stored_checksum.ensures.loads.call.done c.in_ok-stored_checksum.ensures.word words (c.in_ok-entry.ensures.counted.loads.done.fits words fits)) c.in-Some.ensures.0 c.hash_head-start.ensures c.chunk_at-at.ensures.value c.halves-key_len.ensures.key_is c.halves-key_len.ensures.value_is (c.in_ok-entry.ensures.answer words fits))
       c.if-entry-stored_checksum.false (not_true c.in_ok-entry.entry.padded c.if-not-entry.true);
   count = omega (arith, verdict_words_all c.args.geo.now words c.args.place c.args.chunk c.in_ok-head.head c.in_ok-stored_checksum.stored_checksum (first_two (g.M.Mem.seen c.load.new.self) (g.M.Mem.seen c.load-2.new.self) c.args.geo.now c.args.place c.args.chunk c.chunk_at-at.result c.in_ok-head.head c.in_ok-stored_checksum.stored_checksum c.chunk_at-at.ensures.value c.in_ok-head.ensures.word c.in_ok-stored_checksum.ensures.loads.call.done c.in_ok-stored_checksum.ensures.word words (c.in_ok-entry.ensures.counted.loads.done.fits words fits)) c.in-Some.ensures.0, c.in_ok-head.ensures.loads.event.events, c.in_ok-stored_checksum.ensures.loads.event.events, c.in_ok-entry.ensures.counted.count, c.halves-key_len.ensures.key_is, c.halves-key_len.ensures.value_is);
 }
@@ -90,9 +90,9 @@ returns-clause-loads g c =
 
 pub returns-clause-verdict : goal.returns-clause-verdict
 returns-clause-verdict g c words fits = record {
-  verdict_is = verdict_good c.args.geo.now words c.args.place c.args.chunk c.in_ok-head.head c.in_ok-stored_checksum.stored_checksum c.hash-start.result c.in_ok-entry.entry
-      (read_of c.args.geo.now words c.args.place c.args.chunk c.in_ok-head.head c.in_ok-stored_checksum.stored_checksum c.hash-start.result c.chunk_at-at.result c.halves-key_len.result.0 c.halves-key_len.result.1 c.in_ok-entry.entry
-      (first_two (g.M.Mem.seen c.load.new.self) (g.M.Mem.seen c.load-2.new.self) c.args.geo.now c.args.place c.args.chunk c.chunk_at-at.result c.in_ok-head.head c.in_ok-stored_checksum.stored_checksum c.chunk_at-at.ensures.value c.in_ok-head.ensures.word c.in_ok-stored_checksum.ensures.loads.call.done c.in_ok-stored_checksum.ensures.word words (c.in_ok-entry.ensures.counted.loads.done.fits words fits)) c.in-Some.ensures.0 (rw c.to_le_bytes.ensures at c.hash-start.ensures) c.chunk_at-at.ensures.value c.halves-key_len.ensures.key_is c.halves-key_len.ensures.value_is (c.in_ok-entry.ensures.answer words fits))
+  verdict_is = verdict_good c.args.geo.now words c.args.place c.args.chunk c.in_ok-head.head c.in_ok-stored_checksum.stored_checksum c.hash_head-start.result c.in_ok-entry.entry
+      (read_of c.args.geo.now words c.args.place c.args.chunk c.in_ok-head.head c.in_ok-stored_checksum.stored_checksum c.hash_head-start.result c.chunk_at-at.result c.halves-key_len.result.0 c.halves-key_len.result.1 c.in_ok-entry.entry
+      (first_two (g.M.Mem.seen c.load.new.self) (g.M.Mem.seen c.load-2.new.self) c.args.geo.now c.args.place c.args.chunk c.chunk_at-at.result c.in_ok-head.head c.in_ok-stored_checksum.stored_checksum c.chunk_at-at.ensures.value c.in_ok-head.ensures.word c.in_ok-stored_checksum.ensures.loads.call.done c.in_ok-stored_checksum.ensures.word words (c.in_ok-entry.ensures.counted.loads.done.fits words fits)) c.in-Some.ensures.0 c.hash_head-start.ensures c.chunk_at-at.ensures.value c.halves-key_len.ensures.key_is c.halves-key_len.ensures.value_is (c.in_ok-entry.ensures.answer words fits))
       c.halves-key_len.result.0 c.halves-key_len.result.1 c.in-Some.chunks c.requires.readable.place_low
       (words_long (g.M.Mem.seen c.args.mem.now) (g.M.Mem.seen c.hash_entry.new.mem) c.args.geo.now (reads_transitive _ (g.M.Mem.seen c.load-2.new.self) _ (loaded_more g.M.Mem.seen g.M.Mem.same_rest _ c.load.new.self c.load-2.new.self _ (g.met.M.Mem.rest_transitive _ _ _) (done_by g.M.Mem.seen g.M.Mem.same_rest Reads IsAsBefore _ _ _ c.in_ok-head.ensures.loads.call) c.in_ok-stored_checksum.ensures.loads).done c.in_ok-entry.ensures.counted.loads.done) c.requires.readable.readable.geo_is words fits)
       c.halves-key_len.ensures.key_is c.halves-key_len.ensures.value_is c.in-Some.ensures.1 c.if-entry-stored_checksum.false (not_false c.in_ok-entry.entry.padded c.if-not-entry.false);
