@@ -16,7 +16,7 @@ use Rattle.cm_plain.specs.States.{State, one_tier}
 use Rattle.cm_plain.specs.Steps.{Step, is_change}
 use Rattle.cm_plain.specs.History.{Call, IsInHistory, KeepsOrder, Legal, change_count, is_changing, grant_of}
 use Rattle.cm_plain.specs.Segments.{AnswersOp, Segment}
-use Rattle.chronmap.proofs.Regrant.{as_granted, unchanged_state}
+use Rattle.cm_plain.proofs.Regrant.{as_granted, unchanged_state}
 
 -- the state after so many changes
 abbrev pub state_at : List State → ℕ → State

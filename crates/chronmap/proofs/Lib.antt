@@ -2,5 +2,4 @@ pub mod Answering
 pub mod Explaining
 pub mod Histories
 pub mod KnownBytes
-pub mod Regrant
 pub mod StatusCauses

@@ -17,6 +17,7 @@ pub mod PlacementSteps
 pub mod LeastKey
 pub mod RemovalSteps
 pub mod SweepSteps
+pub mod Regrant
 pub mod EntryCount
 pub mod OutsideHead
 pub mod OneState

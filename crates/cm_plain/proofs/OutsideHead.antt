@@ -79,7 +79,7 @@ tier_same geo words at word state place low t = record {
 zero_same : (geo : Geo) (words : List ℕ) (at word place : ℕ) → at < 4 → IsZero geo words place → IsZero geo (slice_set words at word) place
 zero_same geo words at word place low z = λ offset below. in_tier geo words at word place offset low ∙ z offset below
 
-represents_same : (geo : Geo) (segment : ℕ) (words : List ℕ) (at word : ℕ) (state : State) → at < 2 → Represents geo segment words state → Represents geo segment (slice_set words at word) state
+pub represents_same : (geo : Geo) (segment : ℕ) (words : List ℕ) (at word : ℕ) (state : State) → at < 2 → Represents geo segment words state → Represents geo segment (slice_set words at word) state
 represents_same geo segment words at word state within_limit t = let low : at < 4 = omega arith in record {
   is_state = t.is_state;
   whole = rw (linked_same geo words at word low) t.whole;

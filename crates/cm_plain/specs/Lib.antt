@@ -15,3 +15,4 @@ pub mod FoundChains
 pub mod Lawful
 pub mod ZeroWords
 pub mod Torn
+pub mod Outcomes

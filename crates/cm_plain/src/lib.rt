@@ -4,6 +4,7 @@
 
 mod bytes;
 mod entries;
+mod found;
 mod heard;
 mod list_of;
 mod op;
@@ -20,6 +21,7 @@ mod stop;
 mod tests;
 
 pub use bytes::Bytes;
+pub use found::{Drops, SegFound};
 pub use heard::Heard;
 pub use list_of::ListOf;
 pub use op::Op;
