@@ -18,3 +18,4 @@ pub mod PartialShift
 pub mod SearchLoop
 pub mod RemovalLoop
 pub mod ShiftOrigin
+pub mod EmptySlots
