@@ -1,0 +1,23 @@
+-- The lemmas on the laws.
+pub mod FirstFound
+pub mod QuietReads
+pub mod EntryReads
+pub mod HeadWords
+pub mod RangeTests
+pub mod Reaches
+pub mod KeySearch
+pub mod LinkedPlaces
+pub mod TakenBits
+pub mod AnyChain
+pub mod LawsKept
+pub mod GatheredEntries
+pub mod SlotLists
+pub mod TidySegments
+pub mod HeadLawsKept
+pub mod TidyLaws
+pub mod LawfulSegments
+pub mod LawfulMaps
+pub mod MapLines
+pub mod BrokenLaws
+pub mod MapLaws
+pub mod CountReads
