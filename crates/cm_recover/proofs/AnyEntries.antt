@@ -46,38 +46,40 @@ kept_beside geo kept placed it e = elim (cases_Bool (list_any (λ other. bytes_e
     one a b e = cc e
 
 -- one that a slot points to
-record IsOfSegment (geo : Geo) (segment : ℕ) (kept : List Placed) (placed it : Placed) : Type 0 where
+record IsOfSegment (geo : Geo) (segment : ℕ) (kept : List Placed) (fingerprint : ℕ) (placed it : Placed) : Type 0 where
   here : segment_of_key geo placed.key ≡ segment
+  print : fingerprint_in geo (hash placed.key) ≡ fingerprint
   beside : IsBeside geo kept placed it
 
-kept_on_entry : (geo : Geo) (segment : ℕ) (kept : List Placed) (fingerprint : ℕ) (placed it : Placed) → judgement_on_entry geo segment kept fingerprint placed ≡ is_kept it → IsOfSegment geo segment kept placed it
+kept_on_entry : (geo : Geo) (segment : ℕ) (kept : List Placed) (fingerprint : ℕ) (placed it : Placed) → judgement_on_entry geo segment kept fingerprint placed ≡ is_kept it → IsOfSegment geo segment kept fingerprint placed it
 kept_on_entry geo segment kept fingerprint placed it e = elim (eqb_tells (segment_of_key geo placed.key) segment) [
   | inr fails ↦ (let f = fails.0 in let clash : is_dropped cause.Segment ≡ is_kept it = rw f at e in cc clash)
-  | inl here ↦ (let h = here.0 in elim (cases_Bool (fingerprint_in geo (hash placed.key) == fingerprint)) [
-    | inr fails ↦ (let clash : is_dropped cause.Fingerprint ≡ is_kept it = rw (h, fails) at e in cc clash)
-    | inl same ↦ record { here = here.1; beside = kept_beside geo kept placed it (rw (h, same) at e) }
+  | inl here ↦ (let h = here.0 in elim (eqb_tells (fingerprint_in geo (hash placed.key)) fingerprint) [
+    | inr fails ↦ (let f = fails.0 in let clash : is_dropped cause.Fingerprint ≡ is_kept it = rw (h, f) at e in cc clash)
+    | inl same ↦ (let f = same.0 in record { here = here.1; print = same.1; beside = kept_beside geo kept placed it (rw (h, f) at e) })
   ])
 ]
 
 -- what is read where it stands
-record IsReadAt (geo : Geo) (segment : ℕ) (words : List ℕ) (kept : List Placed) (place : ℕ) (it : Placed) : Type 0 where
+record IsReadAt (geo : Geo) (segment : ℕ) (words : List ℕ) (kept : List Placed) (fingerprint place : ℕ) (it : Placed) : Type 0 where
   place_is : it.place ≡ place
+  print : fingerprint_in geo (hash it.key) ≡ fingerprint
   reads : Stands geo words it
   here : segment_of_key geo it.key ≡ segment
   new : list_any (λ other. bytes_eq other.key it.key) kept ≡ false
   free : list_any (meets geo it.place it.chunk (chunks_of geo it)) kept ≡ false
 
 kept_on_reading : (geo : Geo) (segment : ℕ) (words : List ℕ) (kept : List Placed) (fingerprint place chunk : ℕ) (it : Placed) (reading : Reading) → reading_at geo words place chunk ≡ reading
-    → judgement_on_reading geo segment kept fingerprint place chunk reading ≡ is_kept it → IsReadAt geo segment words kept place it
+    → judgement_on_reading geo segment kept fingerprint place chunk reading ≡ is_kept it → IsReadAt geo segment words kept fingerprint place it
 kept_on_reading geo segment words kept fingerprint place chunk it wrong_lengths is e = cc e
 kept_on_reading geo segment words kept fingerprint place chunk it wrong_checksum is e = cc e
 kept_on_reading geo segment words kept fingerprint place chunk it wrong_padding is e = cc e
 kept_on_reading geo segment words kept fingerprint place chunk it (entry pair) is e =
     let up = kept_on_entry geo segment kept fingerprint (entry_at pair.key pair.value place chunk) it e in
-    subst (λ (p : Placed). IsReadAt geo segment words kept place p) up.beside.is (record { place_is = refl; reads = is; here = up.here; new = up.beside.new; free = up.beside.free })
+    subst (λ (p : Placed). IsReadAt geo segment words kept fingerprint place p) up.beside.is (record { place_is = refl; print = up.print; reads = is; here = up.here; new = up.beside.new; free = up.beside.free })
 
 kept_in_tier : (geo : Geo) (segment : ℕ) (words : List ℕ) (kept : List Placed) (fingerprint place : ℕ) (chunk : Option ℕ) (it : Placed)
-    → judgement_in_tier geo segment words kept fingerprint place chunk ≡ is_kept it → IsReadAt geo segment words kept place it
+    → judgement_in_tier geo segment words kept fingerprint place chunk ≡ is_kept it → IsReadAt geo segment words kept fingerprint place it
 kept_in_tier geo segment words kept fingerprint place None it e = cc e
 kept_in_tier geo segment words kept fingerprint place (Some chunk) it e = elim (cases_Bool (nat_le geo.chunks chunk)) [
   | inl outside ↦ (let clash : is_dropped cause.Range ≡ is_kept it = rw outside at e in cc clash)
@@ -85,40 +87,41 @@ kept_in_tier geo segment words kept fingerprint place (Some chunk) it e = elim (
 ]
 
 -- what is known of the entry of a slot that is kept
-record IsSlotKept (geo : Geo) (segment : ℕ) (words places : List ℕ) (kept : List Placed) (it : Placed) : Type 0 where
-  among : In it.place places
-  reads : Stands geo words it
-  here : segment_of_key geo it.key ≡ segment
-  new : list_any (λ other. bytes_eq other.key it.key) kept ≡ false
-  free : list_any (meets geo it.place it.chunk (chunks_of geo it)) kept ≡ false
+pub record IsSlotKept (geo : Geo) (segment : ℕ) (words places : List ℕ) (kept : List Placed) (fingerprint : ℕ) (it : Placed) : Type 0 where
+  pub among : In it.place places
+  pub print : fingerprint_in geo (hash it.key) ≡ fingerprint
+  pub reads : Stands geo words it
+  pub here : segment_of_key geo it.key ≡ segment
+  pub new : list_any (λ other. bytes_eq other.key it.key) kept ≡ false
+  pub free : list_any (meets geo it.place it.chunk (chunks_of geo it)) kept ≡ false
 
-slot_kept : (geo : Geo) (segment : ℕ) (words places : List ℕ) (kept : List Placed) (at : OccupiedSlot) (it : Placed) → judgement geo segment words places kept at ≡ is_kept it → IsSlotKept geo segment words places kept it
+pub slot_kept : (geo : Geo) (segment : ℕ) (words places : List ℕ) (kept : List Placed) (at : OccupiedSlot) (it : Placed) → judgement geo segment words places kept at ≡ is_kept it → IsSlotKept geo segment words places kept at.slot.fingerprint it
 slot_kept geo segment words places kept at it e = elim (cases_Bool (list_any (λ place. place == at.place) places)) [
   | inr outside ↦ (let clash : is_dropped cause.Allowance ≡ is_kept it = rw outside at e in cc clash)
   | inl among ↦ (
       let read = kept_in_tier geo segment words kept at.slot.fingerprint at.place at.slot.chunk it (rw among at e) in
       let one = some_any (λ place. place == at.place) places among in
       let place_is : it.place ≡ one.0 = read.place_is ∙ sym (same one.0 at.place one.2) in
-      record { among = subst (λ (p : ℕ). In p places) (sym place_is) one.1; reads = read.reads; here = read.here; new = read.new; free = read.free })
+      record { among = subst (λ (p : ℕ). In p places) (sym place_is) one.1; print = read.print; reads = read.reads; here = read.here; new = read.new; free = read.free })
 ]
   where
     same : (a b : ℕ) → (a == b) ≡ true → a ≡ b
     same a b e = grind (arith, nat_tests)
 
 -- an entry that is read has a run
-stands_run : (geo : Geo) (words : List ℕ) (placed : Placed) → length words ≡ words_in_segment geo → placed.place < geo.tiers → Stands geo words placed → HasRun geo placed
+pub stands_run : (geo : Geo) (words : List ℕ) (placed : Placed) → length words ≡ words_in_segment geo → placed.place < geo.tiers → Stands geo words placed → HasRun geo placed
 stands_run geo words placed length_is low stands =
     let has = has_words geo words placed.place placed.chunk placed.key placed.value length_is low stands in
     record { fits = has.fits; inside = has.inside }
 
 -- entries that are placed in tiers of a chain, in the order of their runs, with different keys
-record ArePlaced (geo : Geo) (segment : ℕ) (chain : List ℕ) (entries : List Placed) : Type 0 where
-  placed : AllByRecursion (IsPlaced geo segment chain) entries
-  rising : Pairs (Rising geo) entries
-  keys : Pairs Differs entries
+pub record ArePlaced (geo : Geo) (segment : ℕ) (chain : List ℕ) (entries : List Placed) : Type 0 where
+  pub placed : AllByRecursion (IsPlaced geo segment chain) entries
+  pub rising : Pairs (Rising geo) entries
+  pub keys : Pairs Differs entries
 
 -- one more slot
-placed_more : (geo : Geo) (segment : ℕ) (words places : List ℕ) (kept : KeptEntries) (at : OccupiedSlot) → length words ≡ words_in_segment geo → AllByRecursion (λ place. place < geo.tiers) places
+pub placed_more : (geo : Geo) (segment : ℕ) (words places : List ℕ) (kept : KeptEntries) (at : OccupiedSlot) → length words ≡ words_in_segment geo → AllByRecursion (λ place. place < geo.tiers) places
     → ArePlaced geo segment places kept.entries → (it : Judgement) → judgement geo segment words places kept.entries at ≡ it → ArePlaced geo segment places (kept_with geo kept it).entries
 placed_more geo segment words places kept at length_is low was (is_dropped why) e = was
 placed_more geo segment words places kept at length_is low was (is_kept placed) e =

@@ -18,7 +18,7 @@ use Rattle.cm_plain.proofs.StatePairs.{apart_in}
 use Rattle.cm_plain.proofs.States.{each_rising}
 use Rattle.cm_recover.specs.OccupiedSlots.{OccupiedSlot}
 use Rattle.cm_recover.specs.Judgements.{judgement}
-use Rattle.cm_recover.specs.Outcomes.{IsChangeOutcome}
+use Rattle.cm_plain.specs.Outcomes.{IsChangeOutcome}
 use Rattle.cm_recover.proofs.KeptSlots.{AreAlone, IsJudge}
 use Rattle.cm_recover.proofs.SlotJudgements.{by_entry}
 

@@ -28,7 +28,7 @@ use Rattle.cm_plain.proofs.States.{each_differs}
 use Rattle.cm_recover.specs.declared.cause.Cause.TheVariants as cause
 use Rattle.cm_recover.specs.OccupiedSlots.{OccupiedSlot}
 use Rattle.cm_recover.specs.Judgements.{judgement}
-use Rattle.cm_recover.specs.Outcomes.{IsChangeOutcome}
+use Rattle.cm_plain.specs.Outcomes.{IsChangeOutcome}
 use Rattle.cm_recover.proofs.InPlaceWords.{bad_padding, bad_checksum, good, reads_key}
 use Rattle.cm_recover.proofs.SlotJudgements.{by_reading}
 use Rattle.cm_recover.proofs.KeptSlots.{IsJudged}

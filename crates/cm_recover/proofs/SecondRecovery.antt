@@ -12,7 +12,7 @@ use Rattle.cm_recover.specs.Laws.{KeepsRecovered}
 use Rattle.cm_recover.proofs.LawfulWords.{keeps_states}
 
 -- a sum with one more number at its end
-sum_more : (f : ℕ → ℕ) (low count : ℕ) → sum_by f (range_with_len low (suc count)) ≡ sum_by f (range_with_len low count) + f (low + count)
+pub sum_more : (f : ℕ → ℕ) (low count : ℕ) → sum_by f (range_with_len low (suc count)) ≡ sum_by f (range_with_len low count) + f (low + count)
 sum_more f low zero =
     let one : sum_by f (range_with_len low 1) ≡ f low + sum_by f (range_with_len (low + 1) 0) = sum_by-cons f low (range_with_len (low + 1) 0) in
     let e : f (low + 0) ≡ f low = ap f (omega arith) in

@@ -23,7 +23,7 @@ use Rattle.cm_recover.specs.OccupiedSlots.{OccupiedSlot, occupied_slots}
 use Rattle.cm_recover.specs.AllowedPlaces.{allowed_places}
 use Rattle.cm_recover.specs.Judgements.{judgement}
 use Rattle.cm_recover.specs.KeptSlots.{KeptEntries, kept_in, kept_of}
-use Rattle.cm_recover.specs.Outcomes.{IsChangeOutcome, Outcome}
+use Rattle.cm_plain.specs.Outcomes.{IsChangeOutcome, Outcome}
 use Rattle.cm_recover.specs.Laws.{IsTorn, IsCauseOfTorn, KeepsOutcomes}
 use Rattle.cm_recover.proofs.Allowance.{all_allowed}
 use Rattle.cm_recover.proofs.TornSlots.{ReadsIts, by_kind, judged, new_judged, old_judged, others_judged}

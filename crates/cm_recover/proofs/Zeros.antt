@@ -1,31 +1,27 @@
 -- Words into which a first entry is written are torn for its put. Words in which nothing was written are such words, and represent one empty tier.
-use Rattle.std.proofs.Common.{◌≡◌, ℕ, ◌*◌, subst, ◌+◌, ◌-◌, ◌/◌, ◌%◌, ◌<◌, ◌≤◌, ◌^◌, Bool, true, false, Some, None, List, [], ◌∷◌, find, length, nat_le, replicate, bit_and, refl, sym, ◌∙◌, arith, zero, suc, inl, inr}
+use Rattle.std.proofs.Common.{◌≡◌, ℕ, ◌*◌, subst, ◌+◌, ◌-◌, ◌<◌, ◌≤◌, Bool, true, Some, None, List, [], ◌∷◌, find, length, nat_le, refl, sym, ◌∙◌, arith, zero, suc, inl, inr}
 use Rattle.std.specs.List.{Contains, range_with_len, sum_by}
-use Rattle.std.proofs.lemmas.Bool.{cases_lt}
 use Rattle.std.proofs.lemmas.Bool.Decides.{nat_tests}
-use Rattle.std.proofs.lemmas.Grind.{common_steps}
-use Rattle.std.proofs.lemmas.List.Elements.{All-from_recursion}
 use Rattle.std.proofs.lemmas.List.Sums.{sum_by-cons}
-use Rattle.std.proofs.lemmas.List.{get_or-replicate, get_or_past, length-replicate}
+use Rattle.std.proofs.lemmas.List.{length-replicate}
 use Rattle.cm_geo.specs.declared.geo.Geo.{Geo}
-use Rattle.cm_geo.specs.declared.limits.TheConstants.{MAX_RUN_CHUNKS, WORD_BITS}
-use Rattle.cm_geo.specs.Addresses.{bits_at, slot_at, tier_at, words_in_segment}
+use Rattle.cm_geo.specs.declared.limits.TheConstants.{MAX_RUN_CHUNKS}
+use Rattle.cm_geo.specs.Addresses.{tier_at, words_in_segment}
 use Rattle.cm_geo.specs.Hash.{segment_of_key}
 use Rattle.cm_geo.specs.Need.{Fits, need}
-use Rattle.cm_geo.proofs.Ranges.{chunks_range, tiers_range}
+use Rattle.cm_geo.proofs.Ranges.{chunks_range}
 use Rattle.cm_plain.specs.declared.op.Op.TheVariants.{Put}
 use Rattle.cm_plain.specs.declared.placed.Placed.{Placed}
 use Rattle.cm_plain.specs.declared.room.Spot.{Spot}
 use Rattle.cm_plain.specs.declared.room.Room.TheVariants.{Elsewhere}
-use Rattle.cm_plain.specs.States.{IsState, one_tier}
+use Rattle.cm_plain.specs.States.{one_tier}
 use Rattle.cm_plain.specs.Rooms.{first_fit, is_free}
 use Rattle.cm_plain.specs.Changes.{Change, entry_at, placing_change, planned_change}
 use Rattle.cm_plain.specs.Steps.{Plans}
 use Rattle.cm_plain.specs.Torn.{IsChangeSlot, Torn}
 use Rattle.cm_plain.specs.Readings.{Stands}
-use Rattle.cm_plain.specs.Slots.{IsPointed, Slot, slot_for, slot_in, word_at}
-use Rattle.cm_plain.specs.FoundChains.{chain_of, chain_from}
-use Rattle.cm_plain.specs.Lawful.{EndsHead, HasBit, LawfulApart, Represents, TierRepresents}
+use Rattle.cm_plain.specs.Slots.{IsPointed, Slot, slot_for, slot_in}
+use Rattle.cm_plain.specs.FoundChains.{chain_of}
 use Rattle.cm_plain.proofs.Placements.{placed_state}
 use Rattle.cm_plain.proofs.RestingTorn.{resting_torn}
 use Rattle.cm_plain.proofs.OutsideHead.{resting_many}

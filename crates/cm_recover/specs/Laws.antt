@@ -12,7 +12,7 @@ use Rattle.cm_plain.specs.Torn.{Torn}
 use Rattle.cm_recover.specs.declared.cause.Cause.{Cause}
 use Rattle.cm_recover.specs.declared.cause.Cause.TheVariants as cause
 use Rattle.cm_recover.specs.KeptSlots.{kept_in, kept_state}
-use Rattle.cm_recover.specs.Outcomes.{Outcome}
+use Rattle.cm_plain.specs.Outcomes.{Outcome}
 
 -- the words of a segment, as many as it has, are torn for a state and a change that is planned for it
 pub record IsTorn (geo : Geo) (segment : ℕ) (words : List ℕ) (state : State) (op : Op) (change : Change) : Type 0 where

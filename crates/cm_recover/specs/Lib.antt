@@ -4,6 +4,8 @@ pub mod AllowedPlaces
 pub mod Judgements
 pub mod KeptSlots
 pub mod Recovered
-pub mod Outcomes
+pub mod Tallies
+pub mod Rebuilding
+pub mod Clearing
 pub mod Laws
 pub mod Premises

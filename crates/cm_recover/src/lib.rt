@@ -1,10 +1,21 @@
-//! What recovery keeps of a map's words, whatever stands in them.
+//! Recovery: what is kept of a map's words, whatever stands in them, and the words that it leaves.
 #![tactic(auto)]
 
+mod answers;
 mod cause;
+mod clearing;
+mod judging;
 mod laws;
+mod rebuilding;
+mod recovery;
+mod tally;
 #[cfg(test)]
 mod tests;
+#[cfg(test)]
+mod tests_causes;
+#[cfg(test)]
+mod tests_recovery;
 
 pub use cause::Cause;
 pub use laws::{recovery_keeps_what_stood, words_are_torn};
+pub use recovery::recover;

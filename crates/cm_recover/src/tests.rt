@@ -42,7 +42,7 @@ const SLOT_OF_BA: u64 = 0xb54d_d00c_0000_0002;
 const SLOT_OF_BBA: u64 = 0x1341_628c_0000_0003;
 
 // The words of the entries of a and ba, and their slots.
-const TWO_ENTRIES: [(At, u64); 10] = [
+pub(crate) const TWO_ENTRIES: [(At, u64); 10] = [
     (At::Chunk(0, 0, 0), 0x1_0000_0001),
     (At::Chunk(0, 0, 1), 0xdcc3_2d51_747b_8d85),
     (At::Chunk(0, 0, 2), 0x61),
@@ -80,11 +80,11 @@ const WITH_Z: [(At, u64); 7] = [
 
 /// A change of some words, with its stores in their order.
 #[derive(Clone, Copy)]
-struct Trial<'a> {
-    tiers: u32,
-    first: &'a [(At, u64)],
-    change: Change<'a, 'a>,
-    stores: &'a [(At, u64)],
+pub(crate) struct Trial<'a> {
+    pub(crate) tiers: u32,
+    pub(crate) first: &'a [(At, u64)],
+    pub(crate) change: Change<'a, 'a>,
+    pub(crate) stores: &'a [(At, u64)],
 }
 
 impl Trial<'_> {
@@ -100,7 +100,7 @@ impl Trial<'_> {
 }
 
 /// The entries of others, with one more, if any.
-fn entries_with<'a>(
+pub(crate) fn entries_with<'a>(
     alloc: Global,
     others: &[Entry<'a>],
     its: Option<Entry<'a>>,
@@ -113,7 +113,7 @@ fn entries_with<'a>(
 }
 
 // bbba goes to the first empty slot behind its home, and to the first free chunk.
-fn fresh_put() -> Trial<'static> {
+pub(crate) fn fresh_put() -> Trial<'static> {
     Trial {
         tiers: 1,
         first: &WITH_BBA,
@@ -143,7 +143,7 @@ fn fresh_put() -> Trial<'static> {
 }
 
 // The chunk behind bba is free, so its longer value stays.
-fn longer_in_place() -> Trial<'static> {
+pub(crate) fn longer_in_place() -> Trial<'static> {
     Trial {
         tiers: 1,
         first: &WITH_BBA,
@@ -168,7 +168,7 @@ fn longer_in_place() -> Trial<'static> {
 }
 
 // The chunk behind a is taken, so its longer value goes behind all others.
-fn move_in_a_tier() -> Trial<'static> {
+pub(crate) fn move_in_a_tier() -> Trial<'static> {
     Trial {
         tiers: 1,
         first: &WITH_BBA,
@@ -197,7 +197,7 @@ fn move_in_a_tier() -> Trial<'static> {
 }
 
 // The tier is full, so a's longer value goes to a tier that is linked, and ba's slot to a's.
-fn move_to_a_new_tier() -> Trial<'static> {
+pub(crate) fn move_to_a_new_tier() -> Trial<'static> {
     Trial {
         tiers: 2,
         first: &WITH_Z,
@@ -231,7 +231,7 @@ fn move_to_a_new_tier() -> Trial<'static> {
 }
 
 // The slots of ba and bba move up to their home.
-fn removal() -> Trial<'static> {
+pub(crate) fn removal() -> Trial<'static> {
     Trial {
         tiers: 1,
         first: &WITH_BBA,
