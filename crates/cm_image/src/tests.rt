@@ -101,7 +101,7 @@ fn another_length_is_refused(rt: HostRuntime) -> Result<(), Fail> {
     let whole = image.len();
     assert_eq!(rt; whole, 3208);
     assert_eq!(rt; refusal(rt.alloc(), image.as_slice())?, None);
-    for len in [0, 1, 7, 8, 12, 32, 63, 64, 65, 72, 3200, whole - 1] {
+    for len in 0..whole {
         assert_eq!(rt;
             refusal(rt.alloc(), &image[..len])?,
             Some(ImageRefused::Short),

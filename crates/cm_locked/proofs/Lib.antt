@@ -1,0 +1,4 @@
+-- The lemmas of the crate.
+pub mod EvenNumbers
+pub mod FoundWords
+pub mod PlansReady

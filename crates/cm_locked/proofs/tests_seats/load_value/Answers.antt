@@ -1,0 +1,10 @@
+use Rattle.std.proofs.Common.{ℕ, refl, sym, ap, ◌∙◌, arith}
+use Rattle.cm_plain.specs.declared.reply.Reply.TheVariants.{Count}
+use Rattle.cm_lock.proofs.Trials.{count_is}
+use Rattle.cm_locked.proofs.tests_seats.load_value.Goals as goal
+
+pub tell-requires-clause-right : goal.tell-requires-clause-right
+tell-requires-clause-right g c words state fits rests =
+    let key = c.args.shared.now.table.table.shared.key in
+    let same = c.in-Ok.ensures.1 ∙ (sym (c.in_ok-word.ensures.count.here (λ _. omega arith) words fits) ∙ count_is key.geo key.segment words state rests) in
+    (refl, ap (λ (n : ℕ). Count n) same)

@@ -1,0 +1,2 @@
+-- The definitions that the tests' contracts cite.
+pub mod Trials
