@@ -10,7 +10,7 @@ ghost use Rattle.cm_check.specs.Quiets.{IsChunk, geo_of, words_of};
 
 use crate::quiet::Quiet;
 use crate::slots::entry_chunk;
-use cm_plain::{Bytes, ListOf, MapLine, NoMemory};
+use cm_plain::{Bytes, MapLine, NoMemory};
 use cm_words::Words;
 use std::alloc::Global;
 
@@ -66,14 +66,14 @@ fn segment_lines(alloc: Global, quiet: &Quiet<'_>) -> Result<Vec<MapLine>, NoMem
 
 /// The pairs of a lawful map, segment after segment, each in byte order of the keys. Takes memory: NoMemory
 /// where none is left, and no other error.
-pub fn contents(alloc: Global, words: &Words) -> Result<ListOf<MapLine>, NoMemory>
+pub fn contents(alloc: Global, words: &Words) -> Result<Vec<MapLine>, NoMemory>
     requires { IsLawfulMap words.now }
-    ensures { IfOk result (ListsMap words.now) }
+    ensures { IfOk result (λ lines. ListsMap words.now lines.items) }
 {
     let mut lines = Vec::new(alloc);
     for segment in 0..words.geo().segments() {
         let mut more = segment_lines(alloc, &Quiet::new(words, segment))?;
         lines.append(&mut more)?;
     }
-    Ok(ListOf::from_vec(lines))
+    Ok(lines)
 }

@@ -4,7 +4,7 @@
 use crate::tests::with;
 use crate::{Broken, Law, check, contents};
 use cm_geo::{Geo, hash, hash_byte};
-use cm_plain::{ListOf, MapLine, NoMemory};
+use cm_plain::{MapLine, NoMemory};
 use cm_words::Words;
 use std::alloc::Global;
 use std::test::Fail;
@@ -27,7 +27,7 @@ fn word_at(words: &Words, segment: u32, at: u32) -> Option<u64> {
 }
 
 // What a map holds, if it is lawful.
-fn lines_of(alloc: Global, words: &Words) -> Result<Option<ListOf<MapLine>>, NoMemory> {
+fn lines_of(alloc: Global, words: &Words) -> Result<Option<Vec<MapLine>>, NoMemory> {
     match check(words) {
         None => Ok(Some(contents(alloc, words)?)),
         Some(_) => Ok(None),

@@ -58,6 +58,6 @@ returns c =
     let end : c.loop-segment.segment ≡ words.geo.segments = omega (arith, above, c.loop-segment.auto.segment-end, c.segments-segment-end.ensures, ap (λ g. g.segments) c.geo.ensures) in
     record {
       parts = c.loop-segment.invariant.parts;
-      lines_are = c.from_vec.ensures ∙ (c.loop-segment.invariant.lines_are ∙ ap (λ (n : ℕ). flat_map c.loop-segment.invariant.parts (range_with_len 0 n)) end);
+      lines_are = c.loop-segment.invariant.lines_are ∙ ap (λ (n : ℕ). flat_map c.loop-segment.invariant.parts (range_with_len 0 n)) end;
       listed = λ segment below. c.loop-segment.invariant.listed segment (omega (arith, below, above));
     }
