@@ -26,7 +26,8 @@ HasStatus status words source later_source sink later_sink =
     GivesReport status words source later_source sink later_sink ⊎ Refuses status words source later_source sink later_sink
 
 -- The call did what this exit code says: for 0 each segment's printed answers are one legal history of a bounded map, each call once and
--- in its caller's order, and the printed map is what the history leads to; each other code comes only for its cause.
+-- in its caller's order, and the printed map is what the history leads to; each other code but 1 comes only for its cause, and 1 only after words that
+-- run a script.
 pub record HasExitCode (code : ℕ) (words : List (List ℕ)) (source later_source sink later_sink : StreamView) : Type 0 where
   pub status : Status
   pub code_is : code ≡ code_of status

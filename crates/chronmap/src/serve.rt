@@ -59,9 +59,9 @@ fn serve<R: Source, W: Sink>(alloc: Global, words: &[Word], source: &mut R, sink
 
 /// Does all that the program does, and answers the status that it ends with.
 ///
-/// Whatever the script, each segment's printed answers are one legal history of a bounded map, each call
-/// once and in its caller's order, and the printed map is its last state; and each other status comes only
-/// for its cause.
+/// At status 0, where the streams tell their bytes, each segment's printed answers are one legal history of a
+/// bounded map, each call once and in its caller's order, and the printed map is its last state, whatever the
+/// script. Each other status but 1 comes only for its cause; 1 comes only after words that run a script.
 ///
 /// - 0: the script was run, and its report was given whole.
 /// - 1: no memory was left; the sink has no byte of a report.
