@@ -14,4 +14,5 @@ pub mod NumberCopies
 pub mod FuseEvents
 pub mod Tries
 pub mod HoldViews
+pub mod ChangeSteps
 pub mod Trials

@@ -5,7 +5,7 @@ use Rattle.cm_geo.specs.declared.geo.Geo.{Geo}
 use Rattle.cm_geo.specs.Addresses.{words_in_segment}
 use Rattle.cm_words.specs.Peeks.{HasFound}
 use Rattle.cm_plain.specs.States.{State}
-use Rattle.cm_plain.specs.Lawful.{Represents, Resting}
+use Rattle.cm_plain.specs.Lawful.{Resting}
 use Rattle.cm_plain.specs.Slots.{word_at}
 use Rattle.cm_plain.proofs.OutsideHead.{resting_represents}
 use Rattle.cm_lock.specs.declared.view.HeldLevel.{HeldLevel}

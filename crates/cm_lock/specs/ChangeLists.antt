@@ -1,9 +1,9 @@
 -- The one list of a segment's changes, and what seats have noted of it (own).
-use Rattle.std.specs.Prelude.{ℕ, ◌≡◌, ◌+◌, ◌*◌, ◌<◌, ◌≤◌, ◌==◌, false, All, List, [], ◌∷◌, count_by, length, slice_get, sum_by, take, Some}
+use Rattle.std.specs.Prelude.{ℕ, ◌≡◌, ◌+◌, ◌*◌, ◌<◌, ◌≤◌, ◌==◌, true, false, All, List, [], ◌∷◌, count_by, length, slice_get, sum_by, take, Some}
 use Rattle.cm_geo.specs.declared.geo.Geo.{Geo}
 use Rattle.cm_plain.specs.States.{State}
 use Rattle.cm_plain.specs.Changes.{Change, after}
-use Rattle.cm_plain.specs.Steps.{Plans, Step, last_number}
+use Rattle.cm_plain.specs.Steps.{Plans, Step, last_number, reply_of}
 use Rattle.cm_plain.specs.Slots.{word_at}
 use Rattle.cm_lock.specs.declared.view.Key.{Key}
 use Rattle.cm_lock.specs.declared.view.NumberedChange.{NumberedChange}
@@ -38,6 +38,12 @@ last_state geo list = state_after geo list.first list.changes
 abbrev pub ArePlanned : Geo → ℕ → State → List Change → Type 0
 ArePlanned geo segment state [] = Unit {0}
 ArePlanned geo segment state (c ∷ cs) = Plans geo segment state c.op c × ArePlanned geo segment (after geo c state) cs
+
+-- along the list each change is a step of its operation, with the grant of a further tier and the reply to the change, at the number of those
+-- before it, from the state that they lead to
+abbrev pub AreSteps : Key → ChangeList → Type 0
+AreSteps key list = (place : ℕ) (c : Change) → slice_get list.changes place ≡ Some c
+    → Step key.geo key.segment (state_at key.geo list place) (list.start + place) true c.op (state_at key.geo list (place + 1)) (reply_of c.kind c.op c.key)
 
 -- the change number is twice so many changes, and one more while a change is under way, which leaves a number for it
 pub record CountsChanges (words : List ℕ) (views : List View) (number : ℕ) : Type 0 where

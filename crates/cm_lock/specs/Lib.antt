@@ -6,6 +6,7 @@ pub mod ChangeLists
 pub mod Seats
 pub mod Rounds
 pub mod Rule
+pub mod Laws
 pub mod Steps
 pub mod Picks
 pub mod Numbers

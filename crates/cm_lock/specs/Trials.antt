@@ -1,5 +1,5 @@
 -- What seats in the tests know (own).
-use Rattle.std.specs.Prelude.{ℕ, ◌≡◌, ◌≢◌, ◌∷◌, [], List, Some, None, Result, OnOk}
+use Rattle.std.specs.Prelude.{ℕ, ◌≡◌, ◌∷◌, [], List, Some, None, Result, OnOk}
 use Rattle.cm_words.specs.declared.peek.FoundWord.{FoundWord}
 use Rattle.cm_lock.specs.declared.table.SegSeat.{SegSeat}
 use Rattle.cm_lock.specs.declared.table.SegTable.{SegTable}

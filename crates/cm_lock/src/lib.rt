@@ -5,6 +5,7 @@ mod ask;
 mod first;
 mod held;
 mod hold;
+mod laws;
 mod peeking;
 mod plays;
 mod release;
@@ -19,6 +20,7 @@ mod tests;
 mod view;
 
 pub use hold::Hold;
+pub use laws::changes_are_steps;
 pub use peeking::Peeking;
 pub use table::{SegSeat, SegTable};
 pub use take::Stop;

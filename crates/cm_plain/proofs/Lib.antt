@@ -18,6 +18,7 @@ pub mod LeastKey
 pub mod RemovalSteps
 pub mod SweepSteps
 pub mod Regrant
+pub mod PlannedSteps
 pub mod EntryCount
 pub mod OutsideHead
 pub mod OneState

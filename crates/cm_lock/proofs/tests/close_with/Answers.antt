@@ -1,8 +1,4 @@
-use Rattle.std.proofs.Common.{◌≡◌, ℕ, List, [], ◌∷◌, Option, Some, refl, sym, ap, ◌∙◌, subst, arith}
-use Rattle.cm_words.specs.declared.peek.FoundWord.{FoundWord}
-use Rattle.cm_words.specs.Peeks.{HasFound}
-use Rattle.cm_plain.specs.Slots.{word_at}
-use Rattle.cm_plain.specs.declared.reply.Reply.{Reply}
+use Rattle.std.proofs.Common.{ℕ, refl, sym, ap, ◌∙◌}
 use Rattle.cm_plain.specs.declared.reply.Reply.TheVariants.{Count}
 use Rattle.cm_lock.proofs.Trials.{one_found}
 use Rattle.cm_lock.proofs.tests.close_with.Goals as goal

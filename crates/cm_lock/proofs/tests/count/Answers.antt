@@ -1,5 +1,4 @@
 use Rattle.std.proofs.Common.{ℕ, refl, sym, ap, ◌∙◌, arith}
-use Rattle.cm_plain.specs.declared.reply.Reply.{Reply}
 use Rattle.cm_plain.specs.declared.reply.Reply.TheVariants.{Count}
 use Rattle.cm_lock.proofs.Trials.{count_is}
 use Rattle.cm_lock.proofs.tests.count.Goals as goal
