@@ -5,14 +5,10 @@
 //! lowest bit, which is the segment.
 
 use crate::recover;
-use crate::tests::{
-    TWO_ENTRIES, Trial, entries_with, fresh_put, longer_in_place, move_in_a_tier,
-    move_to_a_new_tier, removal,
-};
 use cm_check::check;
 use cm_geo::{Geo, hash, hash_byte};
 use cm_plain::{Drops, NoMemory, SegFound};
-use cm_reading::{At, Entry, Segment};
+use cm_reading::{Entry, Segment};
 use cm_words::Words;
 use std::alloc::Global;
 use std::test::Fail;
@@ -20,29 +16,29 @@ use std::test::Fail;
 /// The words of one tier.
 const TIER: u32 = 389;
 
-/// Words of a map.
+/// Words of a segment, or of those behind it.
 #[derive(Clone, Copy)]
 pub(crate) enum Piece {
-    /// A word at an address of the map.
+    /// A word at an address, counted from the segment's first word.
     Word(u32, u64),
-    /// The link of the tier at a place of the first segment.
+    /// The link of the tier at a place.
     Link(u32, u64),
-    /// A slot there, by its place and its number.
+    /// A slot, by its place and its number.
     Slot(u32, u32, u64),
-    /// A word of a chunk there, by the place, the chunk and the word's number.
+    /// A word of a chunk, by the place, the chunk and the word's number.
     Chunk(u32, u32, u32, u64),
     /// The first word of an entry at a place and a chunk, and behind it the checksum of it and of so many
     /// words that stand behind both.
     Seal(u32, u32, u64, u32),
 }
 
-// The address of a word of the tier at a place of the first segment.
-fn tier_word(place: u32, offset: u32) -> u32 {
+// The address of a word of the tier at a place, from the segment's first word on.
+pub(crate) fn tier_word(place: u32, offset: u32) -> u32 {
     4u32.saturating_add(place.saturating_mul(TIER))
         .saturating_add(offset)
 }
 
-// The address of a word of a chunk there.
+// The address of a word of a chunk, counted so.
 fn chunk_word(place: u32, chunk: u32, word: u32) -> u32 {
     tier_word(place, 133)
         .saturating_add(chunk.saturating_mul(4))
@@ -72,7 +68,7 @@ pub(crate) const SLOT_OF_A: u64 = 0x8601_ec8c_0000_0001;
 
 pub(crate) const SLOT_OF_BA: u64 = 0xb54d_d00c_0000_0002;
 
-const SLOT_OF_BBA: u64 = 0x1341_628c_0000_0003;
+pub(crate) const SLOT_OF_BBA: u64 = 0x1341_628c_0000_0003;
 
 // A key and a value of one byte.
 pub(crate) const ONE_BYTE: u64 = 0x1_0000_0001;
@@ -122,7 +118,7 @@ fn word_at(words: &Words, at: u32) -> u64 {
     }
 }
 
-fn set_word(words: &mut Words, at: u32, word: u64) {
+pub(crate) fn set_word(words: &mut Words, at: u32, word: u64) {
     if at < words.geo().total_words() {
         words.set(at, word);
     }
@@ -141,38 +137,53 @@ fn seal(words: &mut Words, at: u32, head: u64, count: u32) {
     set_word(words, at.saturating_add(1), state);
 }
 
-fn apply(words: &mut Words, piece: Piece) {
+// A piece of the segment whose first word is at an address.
+pub(crate) fn apply(words: &mut Words, first: u32, piece: Piece) {
+    let at = match piece {
+        Piece::Word(at, _) => at,
+        Piece::Link(place, _) => tier_word(place, 0),
+        Piece::Slot(place, number, _) => tier_word(place, 5).saturating_add(number),
+        Piece::Chunk(place, chunk, number, _) => chunk_word(place, chunk, number),
+        Piece::Seal(place, chunk, ..) => chunk_word(place, chunk, 0),
+    };
+    let at = first.saturating_add(at);
     match piece {
-        Piece::Word(at, word) => set_word(words, at, word),
-        Piece::Link(place, word) => set_word(words, tier_word(place, 0), word),
-        Piece::Slot(place, number, word) => {
-            set_word(words, tier_word(place, 5).saturating_add(number), word);
-        }
-        Piece::Chunk(place, chunk, number, word) => {
-            set_word(words, chunk_word(place, chunk, number), word);
-        }
-        Piece::Seal(place, chunk, head, count) => {
-            seal(words, chunk_word(place, chunk, 0), head, count);
-        }
+        Piece::Seal(_, _, head, count) => seal(words, at, head, count),
+        Piece::Word(_, word)
+        | Piece::Link(_, word)
+        | Piece::Slot(_, _, word)
+        | Piece::Chunk(_, _, _, word) => set_word(words, at, word),
     }
 }
 
 impl Case<'_> {
-    fn geo(&self) -> Result<Geo, Fail> {
+    pub(crate) fn geo(&self) -> Result<Geo, Fail> {
         Ok(Geo::new(self.segments, self.tiers, 64, 4, self.extra)?)
     }
 
     fn words(&self, alloc: Global) -> Result<Words, Fail> {
         let mut words = Words::empty(alloc, &self.geo()?)?;
         for piece in ENTRY_OF_A.iter().chain(self.pieces) {
-            apply(&mut words, *piece);
+            apply(&mut words, 0, *piece);
         }
         Ok(words)
+    }
+
+    /// What is found in its segment.
+    pub(crate) fn found(&self, segment: u32) -> SegFound {
+        SegFound {
+            segment,
+            kept: u32::try_from(self.kept.len()).unwrap_or(u32::MAX),
+            drops: self.drops,
+            lock: self.lock,
+            in_flight: self.in_flight,
+            cut: self.cut,
+        }
     }
 }
 
 /// Whether a segment's words represent a chain and these entries, after no change.
-fn rests(
+pub(crate) fn rests(
     alloc: Global,
     words: &Words,
     segment: u32,
@@ -189,7 +200,10 @@ fn rests(
 
 /// Recovers words twice. The words are lawful after the first time; the second time drops nothing, and keeps as many
 /// entries. Answers what was found at first.
-fn recover_twice(alloc: Global, words: &mut Words) -> Result<Option<Vec<SegFound>>, NoMemory> {
+pub(crate) fn recover_twice(
+    alloc: Global,
+    words: &mut Words,
+) -> Result<Option<Vec<SegFound>>, NoMemory> {
     let found = recover(alloc, words)?;
     let is_lawful = check(words).is_none();
     let again = recover(alloc, words)?;
@@ -213,15 +227,7 @@ pub(crate) fn first_wrong(alloc: Global, cases: &[Case<'_>]) -> Result<Option<&'
     for case in cases {
         let mut words = case.words(alloc)?;
         let found = recover_twice(alloc, &mut words)?;
-        let want = SegFound {
-            segment: 0,
-            kept: u32::try_from(case.kept.len()).unwrap_or(u32::MAX),
-            drops: case.drops,
-            lock: case.lock,
-            in_flight: case.in_flight,
-            cut: case.cut,
-        };
-        let is_found = found.is_some_and(|found| found.first() == Some(&want));
+        let is_found = found.is_some_and(|found| found.first() == Some(&case.found(0)));
         if !is_found || !rests(alloc, &words, 0, case.chain, case.kept)? {
             return Ok(Some(case.name));
         }
@@ -251,7 +257,7 @@ const CAUSES: [Case<'static>; 11] = [
         ..ALONE
     },
     Case {
-        name: "empty key, whose checksum is wrong too",
+        name: "empty key, whose checksum and fingerprint are wrong too",
         pieces: &[
             Piece::Slot(0, 12, SLOT_OF_A),
             Piece::Slot(0, 40, 0x28_0000_0003),
@@ -260,7 +266,7 @@ const CAUSES: [Case<'static>; 11] = [
         ..ALONE
     },
     Case {
-        name: "run behind the tier",
+        name: "run behind the tier, with another fingerprint",
         pieces: &[
             Piece::Slot(0, 12, SLOT_OF_A),
             Piece::Slot(0, 40, 0x28_0000_0040),
@@ -270,7 +276,7 @@ const CAUSES: [Case<'static>; 11] = [
         ..ALONE
     },
     Case {
-        name: "wrong checksum, with padding that isn't zero",
+        name: "wrong checksum, with padding that isn't zero and another fingerprint",
         pieces: &[
             Piece::Slot(0, 12, SLOT_OF_A),
             Piece::Slot(0, 40, 0x28_0000_0003),
@@ -284,7 +290,7 @@ const CAUSES: [Case<'static>; 11] = [
         ..ALONE
     },
     Case {
-        name: "padding of the value",
+        name: "padding of the value, with another fingerprint",
         pieces: &[
             Piece::Slot(0, 12, SLOT_OF_A),
             Piece::Slot(0, 40, 0x28_0000_0003),
@@ -296,7 +302,7 @@ const CAUSES: [Case<'static>; 11] = [
         ..ALONE
     },
     Case {
-        name: "other fingerprint, of a key that was kept",
+        name: "other fingerprint, of a key and a run that were kept",
         pieces: &[
             Piece::Slot(0, 12, SLOT_OF_A),
             Piece::Slot(0, 40, 0x28_0000_0001),
@@ -510,29 +516,60 @@ const CHAINS: [Case<'static>; 10] = [
         ..THREE_TIERS
     },
     Case {
-        name: "key of another segment, with another fingerprint",
-        segments: 2,
+        name: "link to itself, in a tier outside the allowance",
+        tiers: 2,
         pieces: &[
-            Piece::Slot(0, 70, 0x4300_f646_0000_0001),
-            Piece::Slot(0, 40, 0x28_0000_0003),
-            Piece::Chunk(0, 2, 2, 0x62),
-            Piece::Seal(0, 2, ONE_BYTE, 2),
+            Piece::Link(0, 1),
+            Piece::Link(1, 1),
+            Piece::Slot(0, 12, SLOT_OF_A),
         ],
-        drops: Drops { segment: 1, ..NONE },
+        cut: true,
         ..ALONE
     },
     Case {
-        name: "padding of a key of another segment",
-        segments: 2,
+        name: "key in two tiers that an older chain left",
         pieces: &[
-            Piece::Slot(0, 70, 0x4300_f646_0000_0001),
-            Piece::Slot(0, 40, 0x28_0000_0003),
-            Piece::Chunk(0, 2, 2, 0x162),
-            Piece::Seal(0, 2, ONE_BYTE, 2),
+            Piece::Link(1, 2),
+            Piece::Slot(0, 12, SLOT_OF_A),
+            Piece::Chunk(1, 5, 2, 0x61),
+            Piece::Seal(1, 5, ONE_BYTE, 2),
+            Piece::Slot(1, 12, 0x8601_ec8c_0000_0006),
+            Piece::Chunk(2, 6, 2, 0x61),
+            Piece::Seal(2, 6, ONE_BYTE, 2),
+            Piece::Slot(2, 12, 0x8601_ec8c_0000_0007),
         ],
-        drops: Drops { padding: 1, ..NONE },
-        ..ALONE
+        ..THREE_TIERS
     },
+    Case {
+        name: "key in two tiers, one of which an older chain left",
+        pieces: &[
+            Piece::Link(0, 2),
+            Piece::Chunk(1, 5, 2, 0x61),
+            Piece::Seal(1, 5, ONE_BYTE, 2),
+            Piece::Slot(1, 12, 0x8601_ec8c_0000_0006),
+            Piece::Chunk(2, 6, 2, 0x61),
+            Piece::Chunk(2, 6, 3, 0x32),
+            Piece::Seal(2, 6, ONE_BYTE, 2),
+            Piece::Slot(2, 12, 0x8601_ec8c_0000_0007),
+        ],
+        chain: &[0, 2],
+        kept: &[Entry {
+            place: 2,
+            chunk: 6,
+            key: b"a",
+            value: b"2",
+        }],
+        ..THREE_TIERS
+    },
+];
+
+#[test]
+fn chains_are_cut_and_end_at_the_allowance(rt: HostRuntime) -> Result<(), Fail> {
+    assert_eq!(rt; first_wrong(rt.alloc(), &CHAINS)?, None);
+    Ok(())
+}
+
+const HEADS: [Case<'static>; 4] = [
     Case {
         name: "lock word above 32 bits, and a change in flight",
         pieces: &[
@@ -546,11 +583,31 @@ const CHAINS: [Case<'static>; 10] = [
         in_flight: true,
         ..ALONE
     },
+    Case {
+        name: "lock word with bits above 31 alone",
+        pieces: &[
+            Piece::Word(0, 0xffff_ffff_0000_0000),
+            Piece::Slot(0, 12, SLOT_OF_A),
+        ],
+        lock: 0xffff_ffff_0000_0000,
+        ..ALONE
+    },
+    Case {
+        name: "greatest odd change number",
+        pieces: &[Piece::Word(1, u64::MAX), Piece::Slot(0, 12, SLOT_OF_A)],
+        in_flight: true,
+        ..ALONE
+    },
+    Case {
+        name: "greatest even change number",
+        pieces: &[Piece::Word(1, u64::MAX - 1), Piece::Slot(0, 12, SLOT_OF_A)],
+        ..ALONE
+    },
 ];
 
 #[test]
-fn chains_are_cut_and_end_at_the_allowance(rt: HostRuntime) -> Result<(), Fail> {
-    assert_eq!(rt; first_wrong(rt.alloc(), &CHAINS)?, None);
+fn lock_words_and_change_numbers_are_told_and_end(rt: HostRuntime) -> Result<(), Fail> {
+    assert_eq!(rt; first_wrong(rt.alloc(), &HEADS)?, None);
     Ok(())
 }
 
@@ -652,69 +709,6 @@ fn random_words_are_recovered(rt: HostRuntime) -> Result<(), Fail> {
         }
         let found = recover_twice(rt.alloc(), &mut words)?;
         assert!(rt; found.is_some(), "in round {round}");
-    }
-    Ok(())
-}
-
-fn piece_of(at: At, word: u64) -> Piece {
-    match at {
-        At::Entries => Piece::Word(2, word),
-        At::Link(place) => Piece::Link(place, word),
-        At::Held(place) => Piece::Word(tier_word(place, 1), word),
-        At::Bits(place) => Piece::Word(tier_word(place, 4), word),
-        At::Slot(place, number) => Piece::Slot(place, number, word),
-        At::Chunk(place, chunk, number) => Piece::Chunk(place, chunk, number, word),
-    }
-}
-
-/// The words after so many stores of a change, recovered; none where a second recovery would drop more.
-fn recovered_after(alloc: Global, trial: &Trial<'_>, made: usize) -> Result<Option<Words>, Fail> {
-    let extra = trial.tiers.saturating_sub(1);
-    let geo = Geo::new(1, trial.tiers, 64, 4, extra)?;
-    let mut words = Words::empty(alloc, &geo)?;
-    let stores = trial.stores.iter().take(made);
-    for (at, word) in TWO_ENTRIES.iter().chain(trial.first).chain(stores) {
-        apply(&mut words, piece_of(*at, *word));
-    }
-    let found = recover_twice(alloc, &mut words)?;
-    Ok(if found.is_some() { Some(words) } else { None })
-}
-
-/// Whether the words are those of a change's outcome, in the chain before it or in the one after it.
-fn is_outcome(alloc: Global, words: &Words, trial: &Trial<'_>) -> Result<bool, Fail> {
-    let change = trial.change;
-    let before = entries_with(alloc, change.others, change.old)?;
-    let after = entries_with(alloc, change.others, change.new)?;
-    let without = entries_with(alloc, change.others, None)?;
-    for chain in change.chains {
-        if rests(alloc, words, 0, chain, &before)? || rests(alloc, words, 0, chain, &after)? {
-            return Ok(true);
-        }
-        // Where a value is replaced in place, the key may be absent.
-        if change.in_place && rests(alloc, words, 0, chain, &without)? {
-            return Ok(true);
-        }
-    }
-    Ok(false)
-}
-
-#[test]
-fn stopped_changes_are_recovered(rt: HostRuntime) -> Result<(), Fail> {
-    let cases = [
-        ("fresh put", fresh_put()),
-        ("longer in place", longer_in_place()),
-        ("move in a tier", move_in_a_tier()),
-        ("move to a new tier", move_to_a_new_tier()),
-        ("removal", removal()),
-    ];
-    for (name, trial) in cases {
-        for made in 0..trial.stores.len() + 1 {
-            let Some(words) = recovered_after(rt.alloc(), &trial, made)? else {
-                panic!(rt; "a second recovery differs at {name}, after {made}");
-            };
-            let is_outcome = is_outcome(rt.alloc(), &words, &trial)?;
-            assert!(rt; is_outcome, "at {name}, after {made}");
-        }
     }
     Ok(())
 }
