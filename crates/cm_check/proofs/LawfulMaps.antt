@@ -11,7 +11,8 @@ use Rattle.cm_plain.proofs.ListElements.{in_range, range_from}
 use Rattle.cm_words.specs.Maps.{IsWhole, MapWords, segment_in, words_before}
 use Rattle.cm_words.proofs.MapPlaces.{segment_inside}
 use Rattle.cm_check.specs.declared.law.Law.TheVariants.{Allowance}
-use Rattle.cm_check.specs.LawOrder.{IsLawfulMap, allowance_broken, breaks, breaks_in, broken_at, extra_before}
+use Rattle.cm_words.specs.LawfulMaps.{IsLawfulMap}
+use Rattle.cm_check.specs.LawOrder.{allowance_broken, breaks, breaks_in, broken_at, extra_before}
 use Rattle.cm_check.specs.Places.{chain_in}
 use Rattle.cm_check.proofs.FirstFound.{append_none, filter_none, joined_none, mapped_none, none_joined, none_passes}
 use Rattle.cm_check.proofs.LawfulSegments.{lawful_of_none, none_of_lawful}

@@ -22,7 +22,8 @@ use Rattle.cm_plain.proofs.StatePairs.{placed_in}
 use Rattle.cm_check.specs.SlotEntries.{entry_in}
 use Rattle.cm_check.specs.declared.law.Law.{Law}
 use Rattle.cm_check.specs.declared.law.Law.TheVariants.{Bits, Chain, Duplicate, Gap, Header, Lock, Number, Overlap, Reserved, SegmentCount, Slot, TierCount, Unlinked, Allowance}
-use Rattle.cm_check.specs.LawOrder.{IsLawfulSegment, breaks_in, breaks_of, count_laws, head_laws, slot_laws, words_broken}
+use Rattle.cm_words.specs.LawfulMaps.{IsLawfulSegment}
+use Rattle.cm_check.specs.LawOrder.{breaks_in, breaks_of, count_laws, head_laws, slot_laws, words_broken}
 use Rattle.cm_check.specs.Places.{chain_in}
 use Rattle.cm_check.specs.CountLaws.{has_bit, is_bit_wrong, is_taken, occupied_among}
 use Rattle.cm_check.specs.SlotReads.{AreCounted}

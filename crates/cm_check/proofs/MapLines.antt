@@ -20,7 +20,7 @@ use Rattle.cm_plain.specs.Lawful.{Lawful}
 use Rattle.cm_plain.proofs.Each.{Pairs}
 use Rattle.cm_plain.proofs.ListElements.{In, in_has, range_from}
 use Rattle.cm_check.specs.Contents.{ListsSegment, line_of, lines_in, slot_lines}
-use Rattle.cm_check.specs.LawOrder.{IsLawfulSegment}
+use Rattle.cm_words.specs.LawfulMaps.{IsLawfulSegment}
 use Rattle.cm_check.specs.Places.{chain_in}
 use Rattle.cm_check.specs.SlotEntries.{entry_in}
 use Rattle.cm_check.specs.SlotReads.{AreRightful}

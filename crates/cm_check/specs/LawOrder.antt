@@ -1,10 +1,7 @@
 -- The laws of a map's words in their order, and the first one that is broken (own). Each law is read under the laws before it.
-use Rattle.std.specs.Prelude.{ℕ, ◌+◌, ◌-◌, ◌<◌, List, [], ◌∷◌, ◌++◌, length, map, filter, flat_map, sum_by, nat_lt, Option}
+use Rattle.std.specs.Prelude.{ℕ, ◌+◌, ◌-◌, List, [], ◌∷◌, ◌++◌, length, map, filter, flat_map, sum_by, nat_lt, Option}
 use Rattle.std.specs.List.{range_with_len}
 use Rattle.cm_geo.specs.declared.geo.Geo.{Geo}
-use Rattle.cm_plain.specs.States.{State}
-use Rattle.cm_plain.specs.FoundChains.{KeepsAllowance}
-use Rattle.cm_plain.specs.Lawful.{Lawful}
 use Rattle.cm_words.specs.Maps.{MapWords, segment_in}
 use Rattle.cm_check.specs.declared.law.Broken.{Broken}
 use Rattle.cm_check.specs.declared.law.Law.{Law}
@@ -72,12 +69,3 @@ breaks words =
 -- the first broken law of a map, if one is broken
 abbrev pub first_broken : MapWords → Option Broken
 first_broken words = first_of (breaks words)
-
--- a segment's words represent a state after some number of changes, and nobody holds its lock
-abbrev pub IsLawfulSegment : Geo → ℕ → List ℕ → Type 0
-IsLawfulSegment geo segment words = (number : ℕ) × (state : State) × Lawful geo segment words number state
-
--- it is so for each segment of a map, and the chains keep the allowance
-pub record IsLawfulMap (words : MapWords) : Type 0 where
-  pub segments : (segment : ℕ) → segment < words.geo.segments → IsLawfulSegment words.geo segment (segment_in words segment)
-  pub allowance : KeepsAllowance words.geo (segment_in words)

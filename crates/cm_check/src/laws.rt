@@ -4,7 +4,8 @@ ghost use Rattle.std.specs.Prelude.{◌≡◌, ◌-◌, ◌<◌, ◌↔◌, List
 ghost use Rattle.cm_words.specs.Maps.{segment_in};
 ghost use Rattle.cm_check.specs.Findings.{NamesFirst};
 ghost use Rattle.cm_check.specs.Places.{chain_in};
-ghost use Rattle.cm_check.specs.LawOrder.{IsLawfulMap, allowance_broken, breaks, breaks_in, breaks_of, broken_at, count_laws, first_broken, head_laws, slot_laws};
+ghost use Rattle.cm_words.specs.LawfulMaps.{IsLawfulMap};
+ghost use Rattle.cm_check.specs.LawOrder.{allowance_broken, breaks, breaks_in, breaks_of, broken_at, count_laws, first_broken, head_laws, slot_laws};
 ghost use Rattle.cm_check.specs.Quiets.{geo_of, words_of};
 
 use crate::counts::{segment_count, tier_counts};

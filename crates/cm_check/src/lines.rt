@@ -4,7 +4,7 @@ ghost use Rattle.std.specs.Prelude.{◌≡◌, ◌++◌, ◌*◌, ◌<◌, IfOk,
 ghost use Rattle.cm_plain.specs.declared.reply.Pair.{Pair};
 ghost use Rattle.cm_plain.specs.Readings.{entry, reading_at};
 ghost use Rattle.cm_check.specs.Contents.{ListsMap, ListsSegment, line_of, lines_in};
-ghost use Rattle.cm_check.specs.LawOrder.{IsLawfulMap, IsLawfulSegment};
+ghost use Rattle.cm_words.specs.LawfulMaps.{IsLawfulMap, IsLawfulSegment};
 ghost use Rattle.cm_check.specs.SlotReads.{IsTierRightful};
 ghost use Rattle.cm_check.specs.Quiets.{IsChunk, geo_of, words_of};
 

@@ -1,5 +1,6 @@
 -- The definitions that contracts cite.
 pub mod Maps
+pub mod LawfulMaps
 pub mod Lending
 pub mod Fuses
 pub mod KillFuses

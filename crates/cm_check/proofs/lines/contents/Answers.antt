@@ -5,7 +5,7 @@ use Rattle.std.proofs.lemmas.Bool.{cases_lt}
 use Rattle.cm_plain.specs.declared.receipt.MapLine.{MapLine}
 use Rattle.cm_words.specs.Maps.{MapWords, segment_in}
 use Rattle.cm_check.specs.Contents.{ListsSegment}
-use Rattle.cm_check.specs.LawOrder.{IsLawfulSegment}
+use Rattle.cm_words.specs.LawfulMaps.{IsLawfulSegment}
 use Rattle.cm_check.specs.Quiets.{geo_of, words_of}
 use Rattle.cm_check.specs.declared.quiet.Quiet.{Quiet}
 use Rattle.cm_check.proofs.QuietReads.{words_new}
