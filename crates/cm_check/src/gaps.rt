@@ -12,7 +12,7 @@ use crate::quiet::Quiet;
 fn reach_of_last(quiet: &Quiet<'_>, place: u32) -> u32
     requires { place < (geo_of quiet.now).tiers }
     ensures reach { IsReach (geo_of quiet.now) (words_of quiet.now) place 0 result }
-    ensures short { result ≤ 2 * (geo_of quiet.now).chunks }
+    ensures within_slots { result ≤ 2 * (geo_of quiet.now).chunks }
 {
     let slots = 2 * quiet.geo().chunks();
     for behind in 0..slots {

@@ -75,7 +75,7 @@ fn segment_laws(quiet: &Quiet<'_>) -> Result<(), Broken>
 /// How many tiers of a segment are chained beyond the first one.
 fn extra_tiers(quiet: &Quiet<'_>) -> u32
     ensures value { result ≡ length (chain_in (geo_of quiet.now) (words_of quiet.now)) - 1 }
-    ensures few { result < 8 }
+    ensures below_eight { result < 8 }
 {
     quiet.places().len() as u32 - 1
 }

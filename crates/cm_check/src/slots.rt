@@ -58,7 +58,7 @@ pub(crate) fn slots(quiet: &Quiet<'_>) -> Result<(), u32>
 /// The chunk to which a slot that keeps the law points, unless it is empty.
 pub(crate) fn entry_chunk(quiet: &Quiet<'_>, place: u32, number: u32) -> Option<u32>
     requires slot { IsSlot (geo_of quiet.now) place number }
-    requires kept { is_astray (geo_of quiet.now) quiet.now.segment (words_of quiet.now) place number ≡ false }
+    requires not_astray { is_astray (geo_of quiet.now) quiet.now.segment (words_of quiet.now) place number ≡ false }
     ensures { MatchOption result (entry_in (geo_of quiet.now) (words_of quiet.now) place number ≡ None)
         (IsEntryAt (geo_of quiet.now) quiet.now.segment (words_of quiet.now) place number) }
 {

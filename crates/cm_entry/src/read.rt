@@ -46,7 +46,7 @@ pub fn lengths_if_key<M: Mem>(
 ) -> Result<Option<(u32, u32)>, Dead>
     requires readable { IsReadableChunk (M.seen mem.old) geo.now place chunk }
     ensures loads { LoadsAtMost M.seen M.same_rest (1 + parts_for 8 (length key.now)) mem.old mem.new result }
-    ensures short { IfOk result (λ lengths. IsSome lengths → length key.now ≤ MAX_KEY_BYTES) }
+    ensures key_within_limit { IfOk result (λ lengths. IsSome lengths → length key.now ≤ MAX_KEY_BYTES) }
     ensures lengths { IfOk result (AreLengthsIf (M.seen mem.new) geo.now place chunk key.now) }
 {
     let (key_len, value_len) = lengths(mem, geo, place, chunk)?;

@@ -17,7 +17,7 @@ pub loop-number-init : goal.loop-number-init
 loop-number-init c = record {
   kept = λ number below. absurd (omega arith);
   reach = c.reach_of_last-reach.ensures.reach;
-  short = omega (arith, c.reach_of_last-reach.ensures.short);
+  short = omega (arith, c.reach_of_last-reach.ensures.within_slots);
 }
 
 pub returns-then-reach-way : goal.returns-then-reach-way

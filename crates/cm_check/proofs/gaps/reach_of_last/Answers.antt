@@ -13,13 +13,13 @@ returns-then-is_none-clause-reach c =
     let none : slot_in (geo_of q) (words_of q) c.args.place (2 * c.chunks-slots.result - 1 - c.loop-behind.behind) ≡ None = sym c.slot.ensures ∙ seen_none c.slot.result (c.if-is_none.ensures) in
     reach_of_first (geo_of q) (words_of q) c.args.place c.loop-behind.behind c.loop-behind.invariant (λ short. ap (λ (n : ℕ). slot_in (geo_of q) (words_of q) c.args.place (n - 1 - c.loop-behind.behind)) (sym size) ∙ none)
 
-pub returns-then-is_none-clause-short : goal.returns-then-is_none-clause-short
-returns-then-is_none-clause-short c =
+pub returns-then-is_none-clause-within_slots : goal.returns-then-is_none-clause-within_slots
+returns-then-is_none-clause-within_slots c =
     let size : 2 * c.chunks-slots.result ≡ 2 * (geo_of c.args.quiet.now).chunks = omega (arith, c.chunks-slots.ensures, ap (λ g. g.chunks) c.geo.ensures) in
     omega (arith, c.loop-behind-test.true, size)
 
-pub returns-clause-short : goal.returns-clause-short
-returns-clause-short c = omega (arith, c.chunks-slots.ensures, ap (λ g. g.chunks) c.geo.ensures)
+pub returns-clause-within_slots : goal.returns-clause-within_slots
+returns-clause-within_slots c = omega (arith, c.chunks-slots.ensures, ap (λ g. g.chunks) c.geo.ensures)
 
 pub returns-clause-reach : goal.returns-clause-reach
 returns-clause-reach c =

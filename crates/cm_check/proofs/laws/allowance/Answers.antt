@@ -31,7 +31,7 @@ loop-segment-preserved c =
     let is : c.loop-segment.extra + c.extra_tiers-extra.result ≡ extra_before words.geo (segment_in words) (segment + 1) = omega (arith, here, more, c.loop-segment.invariant.is) in
     record {
       is = is;
-      short = omega (arith, c.loop-segment.invariant.short, c.extra_tiers-extra.ensures.few);
+      short = omega (arith, c.loop-segment.invariant.short, c.extra_tiers-extra.ensures.below_eight);
       kept = below_more _ _ c.loop-segment.invariant.kept (omega (arith, is, c.if-extra.false, c.extra.ensures, ap (λ g. g.extra) c.geo-geo.ensures));
     }
 

@@ -11,5 +11,5 @@ overflow_cast-result c = omega (arith, ap (λ (xs : List ℕ). length xs) c.plac
 pub overflow_sub-result : goal.overflow_sub-result
 overflow_sub-result c = omega (arith, ap (λ (xs : List ℕ). length xs) c.places.ensures, places_some (chain_is c.args.quiet.now))
 
-pub returns-clause-few : goal.returns-clause-few
-returns-clause-few c = omega (arith, ap (λ (xs : List ℕ). length xs) c.places.ensures, (chain_is c.args.quiet.now).within_limit, tiers_range (geo_of c.args.quiet.now))
+pub returns-clause-below_eight : goal.returns-clause-below_eight
+returns-clause-below_eight c = omega (arith, ap (λ (xs : List ℕ). length xs) c.places.ensures, (chain_is c.args.quiet.now).within_limit, tiers_range (geo_of c.args.quiet.now))

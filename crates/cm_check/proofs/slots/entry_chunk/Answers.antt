@@ -12,7 +12,7 @@ pub overflow_sub-result : goal.overflow_sub-result
 overflow_sub-result c =
     let q = c.args.quiet.now in
     let slot : Slot = record { fingerprint = c.in_ok-parts.parts.fingerprint; chunk = chunk_of_half c.in_ok-parts.parts.low } in
-    let it = entry_rightful (geo_of q) q.segment (words_of q) c.args.place c.args.number slot (many_words q) c.requires.slot.place_inside c.requires.kept (sym c.in_ok-parts.ensures) in
+    let it = entry_rightful (geo_of q) q.segment (words_of q) c.args.place c.args.number slot (many_words q) c.requires.slot.place_inside c.requires.not_astray (sym c.in_ok-parts.ensures) in
     let half = (half_chunk c.in_ok-parts.parts.low it.0).0 it.1 in
     omega (arith, half)
 
@@ -20,7 +20,7 @@ pub returns : goal.returns
 returns c =
     let q = c.args.quiet.now in
     let slot : Slot = record { fingerprint = c.in_ok-parts.parts.fingerprint; chunk = chunk_of_half c.in_ok-parts.parts.low } in
-    let it = entry_rightful (geo_of q) q.segment (words_of q) c.args.place c.args.number slot (many_words q) c.requires.slot.place_inside c.requires.kept (sym c.in_ok-parts.ensures) in
+    let it = entry_rightful (geo_of q) q.segment (words_of q) c.args.place c.args.number slot (many_words q) c.requires.slot.place_inside c.requires.not_astray (sym c.in_ok-parts.ensures) in
     let half = (half_chunk c.in_ok-parts.parts.low it.0).0 it.1 in
     let same : it.0 ≡ c.in_ok-parts.parts.low - 1 = omega (arith, half) in
     subst (λ (chunk : ℕ). IsEntryAt (geo_of q) q.segment (words_of q) c.args.place c.args.number chunk) same it.2

@@ -22,8 +22,8 @@ returns-then-branch-clause-loads g c = record {
   count = omega (arith, c.in_ok-key_len.ensures.loads.event.events, c.in_ok-same_bytes.ensures.loads.count);
 }
 
-pub returns-then-branch-clause-short : goal.returns-then-branch-clause-short
-returns-then-branch-clause-short g c _ = omega (arith, c.in_ok-same_bytes.ensures.length c.if-branch.true, c.key_span_of-span.ensures.within_limit)
+pub returns-then-branch-clause-key_within_limit : goal.returns-then-branch-clause-key_within_limit
+returns-then-branch-clause-key_within_limit g c _ = omega (arith, c.in_ok-same_bytes.ensures.length c.if-branch.true, c.key_span_of-span.ensures.within_limit)
 
 pub returns-then-branch-clause-lengths : goal.returns-then-branch-clause-lengths
 returns-then-branch-clause-lengths g c =
