@@ -1,0 +1,5 @@
+use Rattle.cm_trial.specs.Trials.{IsPlayer}
+use Rattle.cm_swept.proofs.tests_sweeps.put_numbered.Given as goal
+
+abbrev pub invariant-loop-at : goal.invariant-loop-at
+invariant-loop-at g l = IsPlayer l.store l.pass

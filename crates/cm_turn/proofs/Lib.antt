@@ -1,0 +1,20 @@
+-- The lemmas of the crate.
+pub mod Knowledge
+pub mod Verdicts
+pub mod Holding
+pub mod Claiming
+pub mod Settling
+pub mod Endings
+pub mod FoundValues
+pub mod KeptValues
+pub mod LoadPairs
+pub mod OtherAsks
+pub mod EntryNumbers
+pub mod TakenEntries
+pub mod SameElements
+pub mod Cursors
+pub mod NextPairs
+pub mod FoundRounds
+pub mod ListReplies
+pub mod SweptKeys
+pub mod SweepSteps
