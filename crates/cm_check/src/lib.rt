@@ -12,10 +12,6 @@ mod reads;
 mod repeats;
 mod runs;
 mod slots;
-#[cfg(test)]
-mod tests;
-#[cfg(test)]
-mod tests_maps;
 
 pub use law::{Broken, Law};
 pub use laws::check;

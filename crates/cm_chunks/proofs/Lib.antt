@@ -8,4 +8,3 @@ pub mod TurnStores
 pub mod TurnedRuns
 pub mod PartialTurn
 pub mod StateRuns
-pub mod Trials

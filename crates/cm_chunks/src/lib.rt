@@ -4,8 +4,6 @@
 mod bits;
 mod fit;
 mod laws;
-#[cfg(test)]
-mod tests;
 mod turn;
 
 pub use fit::{first_fit, free_after};

@@ -10,10 +10,6 @@ mod prefix;
 mod read;
 mod span;
 mod store;
-#[cfg(test)]
-mod tests;
-#[cfg(test)]
-mod tests_write;
 mod verdict;
 
 pub use read::{

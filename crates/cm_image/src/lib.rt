@@ -1,16 +1,12 @@
 //! The bytes of a map, both ways, and the files in which they are kept.
 #![tactic(auto)]
 
-#[cfg(test)]
-mod broken;
 mod dir;
 mod header;
 mod image;
 mod memory;
 mod refused;
 mod stored;
-#[cfg(test)]
-mod tests;
 mod vault;
 mod words;
 

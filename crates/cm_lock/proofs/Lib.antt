@@ -15,4 +15,3 @@ pub mod FuseEvents
 pub mod Tries
 pub mod HoldViews
 pub mod ChangeSteps
-pub mod Trials

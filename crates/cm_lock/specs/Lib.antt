@@ -16,4 +16,3 @@ pub mod Takes
 pub mod Tables
 pub mod Holds
 pub mod Peekings
-pub mod Trials

@@ -15,8 +15,6 @@ mod seats;
 mod table;
 mod take;
 mod tell;
-#[cfg(test)]
-mod tests;
 mod view;
 
 pub use hold::Hold;

@@ -2,3 +2,4 @@
 pub mod EvenNumbers
 pub mod FoundWords
 pub mod PlansReady
+pub mod SeatTrials

@@ -1,2 +1,3 @@
 -- The definitions that the tests' contracts cite.
-pub mod Trials
+pub mod ChangeTrials
+pub mod SeatTrials

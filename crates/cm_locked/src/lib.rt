@@ -7,4 +7,6 @@ mod tests;
 #[cfg(test)]
 mod tests_change;
 #[cfg(test)]
+mod tests_lock;
+#[cfg(test)]
 mod tests_seats;

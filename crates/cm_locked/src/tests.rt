@@ -6,7 +6,7 @@ ghost use Rattle.cm_geo.specs.Need.{Fits};
 ghost use Rattle.cm_words.specs.Maps.{number_word};
 ghost use Rattle.cm_words.specs.Parity.{IsEven};
 ghost use Rattle.cm_lock.specs.Tables.{IsOf, level_of, view_of};
-ghost use Rattle.cm_lock.specs.Trials.{Continues, IsIdle, IsNumbered, IsReady};
+ghost use Rattle.cm_locked.specs.SeatTrials.{Continues, IsIdle, IsNumbered, IsReady};
 ghost use Rattle.cm_lock.specs.declared.view.Level.TheVariants.{Free};
 
 use crate::tests_change::put_number;

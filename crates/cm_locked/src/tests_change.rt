@@ -7,7 +7,7 @@ ghost use Rattle.cm_plain.specs.Plans.{op_of_ask, plan_change};
 ghost use Rattle.cm_words.specs.Calls.{IsWritable};
 ghost use Rattle.cm_words.specs.Memory.{HasEvenNumber};
 ghost use Rattle.cm_segment.specs.Planning.{MayBegin};
-ghost use Rattle.cm_locked.specs.Trials.{MayHaveChanged};
+ghost use Rattle.cm_locked.specs.ChangeTrials.{MayHaveChanged};
 
 use cm_geo::Geo;
 use cm_plain::Plan;

@@ -7,7 +7,7 @@ ghost use Rattle.cm_geo.specs.Need.{Fits};
 ghost use Rattle.cm_words.specs.Effects.{Knows};
 ghost use Rattle.cm_lock.specs.Rule.{known_of};
 ghost use Rattle.cm_lock.specs.Tables.{IsOf, key_of, level_of, view_of};
-ghost use Rattle.cm_lock.specs.Trials.{Continues, IsIdle, IsNumbered, IsOpen, IsReady, IsRootOfFour};
+ghost use Rattle.cm_locked.specs.SeatTrials.{Continues, IsIdle, IsNumbered, IsOpen, IsReady, IsRootOfFour};
 ghost use Rattle.cm_lock.specs.declared.view.Level.TheVariants.{Free, Write};
 
 use crate::tests_change::put_number;

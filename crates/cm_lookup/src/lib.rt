@@ -4,8 +4,6 @@
 mod hit;
 mod search;
 mod slots;
-#[cfg(test)]
-mod tests;
 
 pub use hit::{Hit, SlotParts};
 pub use search::{find, free_slot};

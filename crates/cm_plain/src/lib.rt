@@ -17,8 +17,6 @@ mod room;
 mod rooms;
 mod segment;
 mod stop;
-#[cfg(test)]
-mod tests;
 
 pub use bytes::Bytes;
 pub use found::{Drops, SegFound};

@@ -9,18 +9,6 @@ mod laws;
 mod rebuilding;
 mod recovery;
 mod tally;
-#[cfg(test)]
-mod tests;
-#[cfg(test)]
-mod tests_alone;
-#[cfg(test)]
-mod tests_causes;
-#[cfg(test)]
-mod tests_recovery;
-#[cfg(test)]
-mod tests_segments;
-#[cfg(test)]
-mod tests_stops;
 
 pub use cause::Cause;
 pub use laws::{recovery_keeps_what_stood, words_are_torn};

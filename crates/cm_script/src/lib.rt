@@ -9,10 +9,6 @@ mod read;
 mod report;
 mod rows;
 mod stop;
-#[cfg(test)]
-mod tests_read;
-#[cfg(test)]
-mod tests_render;
 mod text;
 mod verb;
 

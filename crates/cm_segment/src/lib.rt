@@ -10,18 +10,6 @@ mod relocating;
 mod removing;
 mod replacing;
 mod seek;
-#[cfg(test)]
-mod tests;
-#[cfg(test)]
-mod tests_caller;
-#[cfg(test)]
-mod tests_loads;
-#[cfg(test)]
-mod tests_peek;
-#[cfg(test)]
-mod tests_random;
-#[cfg(test)]
-mod tests_stops;
 mod walks;
 
 pub use change::apply;

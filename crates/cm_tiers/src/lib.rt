@@ -4,8 +4,6 @@
 mod links;
 mod places;
 mod stepwise;
-#[cfg(test)]
-mod tests;
 
 pub use links::{chain, link, next};
 pub use places::{Chain, lowest_unlinked};

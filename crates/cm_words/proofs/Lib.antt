@@ -9,4 +9,3 @@ pub mod UnderPlan
 pub mod MapPlaces
 pub mod PlainNotes
 pub mod OneMemoryState
-pub mod Trials

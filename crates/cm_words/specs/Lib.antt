@@ -18,4 +18,3 @@ pub mod Notes
 pub mod Plain
 pub mod Fixed
 pub mod Laws
-pub mod Trials

@@ -11,8 +11,6 @@ mod meter;
 mod peek;
 mod plain;
 mod plan_copy;
-#[cfg(test)]
-mod tests;
 mod words;
 
 pub use access::Access;

@@ -1,6 +1,6 @@
 use Rattle.std.proofs.Common.{◌≡◌}
 use Rattle.cm_lock.specs.Tables.{level_of}
-use Rattle.cm_lock.specs.Trials.{IsReady}
+use Rattle.cm_locked.specs.SeatTrials.{IsReady}
 use Rattle.cm_lock.specs.declared.view.Level.TheVariants.{Free}
 use Rattle.cm_locked.proofs.tests.stopped_under_lock.Given as goal
 

@@ -1,6 +1,6 @@
 use Rattle.std.proofs.Common.{◌≡◌}
 use Rattle.cm_lock.specs.Tables.{IsOf, level_of, view_of}
-use Rattle.cm_lock.specs.Trials.{IsIdle}
+use Rattle.cm_locked.specs.SeatTrials.{IsIdle}
 use Rattle.cm_lock.specs.declared.view.Level.TheVariants.{Free}
 use Rattle.cm_locked.proofs.tests.work.Given as goal
 

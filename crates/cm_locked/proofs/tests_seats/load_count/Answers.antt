@@ -1,4 +1,4 @@
-use Rattle.cm_lock.proofs.Trials.{count_inside}
+use Rattle.cm_locked.proofs.SeatTrials.{count_inside}
 use Rattle.cm_locked.proofs.tests_seats.load_count.Goals as goal
 
 pub load-requires-clause-in_range : goal.load-requires-clause-in_range

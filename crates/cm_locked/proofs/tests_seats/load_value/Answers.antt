@@ -1,6 +1,6 @@
 use Rattle.std.proofs.Common.{ℕ, refl, sym, ap, ◌∙◌, arith}
 use Rattle.cm_plain.specs.declared.reply.Reply.TheVariants.{Count}
-use Rattle.cm_lock.proofs.Trials.{count_is}
+use Rattle.cm_locked.proofs.SeatTrials.{count_is}
 use Rattle.cm_locked.proofs.tests_seats.load_value.Goals as goal
 
 pub tell-requires-clause-right : goal.tell-requires-clause-right

@@ -2,7 +2,7 @@ use Rattle.std.proofs.Common.{◌∙◌, ap}
 use Rattle.cm_lock.specs.declared.view.View.{View}
 use Rattle.cm_lock.specs.Views.{with_joined}
 use Rattle.cm_lock.specs.Tables.{view_of}
-use Rattle.cm_lock.proofs.Trials.{four_joined, four_numbers}
+use Rattle.cm_locked.proofs.SeatTrials.{four_joined, four_numbers}
 use Rattle.cm_locked.proofs.tests_seats.words_at_end.Goals as goal
 
 pub close-requires-clause-joined : goal.close-requires-clause-joined

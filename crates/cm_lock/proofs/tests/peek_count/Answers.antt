@@ -1,5 +1,0 @@
-use Rattle.cm_lock.proofs.Trials.{count_inside}
-use Rattle.cm_lock.proofs.tests.peek_count.Goals as goal
-
-pub load-requires-clause-in_range : goal.load-requires-clause-in_range
-load-requires-clause-in_range g c = count_inside c.peek-peeking.result.table.now.table.shared.key.geo

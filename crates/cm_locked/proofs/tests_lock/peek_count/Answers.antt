@@ -1,0 +1,5 @@
+use Rattle.cm_locked.proofs.SeatTrials.{count_inside}
+use Rattle.cm_locked.proofs.tests_lock.peek_count.Goals as goal
+
+pub load-requires-clause-in_range : goal.load-requires-clause-in_range
+load-requires-clause-in_range g c = count_inside c.peek-peeking.result.table.now.table.shared.key.geo
