@@ -5,7 +5,7 @@ use Rattle.cm_lock.specs.declared.view.Level.{Level}
 use Rattle.cm_lock.specs.declared.view.View.{View}
 use Rattle.cm_lock.specs.declared.take.Tried.TheVariants.{Taken, Missed}
 use Rattle.cm_lock.specs.Levels.{Permits}
-use Rattle.cm_lock.specs.Takes.{AnswersTry, HasFailed, HasFailedAll, HasTaken, HasTried, MakesLooks, last_found}
+use Rattle.cm_lock.specs.Takes.{AnswersTry, GetsLevel, HasFailed, HasFailedAll, HasTaken, HasTried, MakesLooks, last_found}
 use Rattle.cm_lock.specs.Views.{after_look, after_miss, with_level}
 
 -- nothing was tried yet
@@ -37,7 +37,7 @@ tried_transitive m n u v w p q = record {
 }
 
 -- and then the level was taken
-pub tried_then_taken : (to : Level) (m n most : ℕ) (u v w : View) → m + n ≤ most → HasTried m u v → HasTaken to n v w → HasTaken to most u w
+tried_then_taken : (to : Level) (m n most : ℕ) (u v w : View) → m + n ≤ most → HasTried m u v → GetsLevel to n v w → GetsLevel to most u w
 tried_then_taken to m n most u v w more p q = record {
   view = q.view ∙ ap (λ (x : View). record x { tries = w.tries; looks = w.looks; events = w.events; own = record x.own { level = to } }) p.view;
   counts = looks_within (m + n) most u w more (looks_transitive m n u v w p.counts q.counts);
@@ -65,10 +65,12 @@ try_missed from to is_first v u w word n e f ne =
     (record { view = refl; counts = record { looks = omega arith; within = omega arith; events = omega arith; exchanges = omega arith } }, refl, (record { looked = word; found = n }, refl, inr ne, refl))
 
 -- an exchange that found the word of the look
-pub try_taken : (from to : Level) (is_first : Bool) (v u w : View) (word : ℕ) → u ≡ after_look is_first v word → w ≡ with_level to u → AnswersTry from to is_first v w Taken
-try_taken from to is_first v u w word e f =
-    subst (λ (z : View). HasTaken to 1 v z) (sym (f ∙ ap (with_level to) e))
-    (record { view = refl; counts = record { looks = omega arith; within = omega arith; events = omega arith; exchanges = omega arith }; looked = omega arith; exchanged = omega arith })
+pub try_taken : (from to : Level) (is_first : Bool) (v u w : View) (word : ℕ) → Permits from to word → u ≡ after_look is_first v word → w ≡ with_level to u → AnswersTry from to is_first v w Taken
+try_taken from to is_first v u w word permits e f =
+    subst (λ (z : View). AnswersTry from to is_first v z Taken) (sym (f ∙ ap (with_level to) e)) (
+      record { view = refl; counts = record { looks = omega arith; within = omega arith; events = omega arith; exchanges = omega arith }; looked = omega arith; exchanged = omega arith },
+      (record { looked = word; found = word }, permits, refl),
+    )
 
 -- so many tries were made, and all failed
 pub record IsTrying (from to : Level) (i last : ℕ) (old now : View) : Type 0 where
@@ -80,6 +82,25 @@ pub record IsTrying (from to : Level) (i last : ℕ) (old now : View) : Type 0 w
 
 pub trying_none : (from to : Level) (last : ℕ) (v : View) → IsTrying from to 0 last v v
 trying_none from to last v = record { tried = tried_none v; looks = omega arith; made = λ h. absurd (omega arith); failed = λ h. absurd (omega arith); last_is = λ h. absurd (omega arith) }
+
+later : (i : ℕ) → (suc i == 0) ≡ false
+later i = ne_eqb (suc i) 0 (λ e. omega arith)
+
+-- the next one gave the level
+pub trying_taken : (from to : Level) (i last most : ℕ) (u v w : View) → i < most → IsTrying from to i last u v → AnswersTry from to (i == 0) v w Taken → HasTaken from to most u w
+trying_taken from to zero last most u v w more k a =
+    let is = a.1.2 in let l = k.looks in let m = a.0.looked in let n = a.0.counts.within in record {
+      gets = tried_then_taken to 0 1 most u v w (omega arith) k.tried a.0;
+      made = (let e : length w.tries ≡ 1 = ap length is in omega arith);
+      permits = subst (Permits from to) (sym (ap last_found is)) a.1.1;
+    }
+trying_taken from to (suc i) last most u v w more k a =
+    let t = a.1.0 in let is : w.tries ≡ t ∷ v.tries = a.1.2 ∙ ap (λ (b : Bool). t ∷ (if b then [] else v.tries)) (later i) in
+    let l = k.looks in let m = a.0.looked in let n = a.0.counts.within in let c = k.made (omega arith) in record {
+      gets = tried_then_taken to (suc i) 1 most u v w (omega arith) k.tried a.0;
+      made = (let e : length w.tries ≡ suc (length v.tries) = ap length is in omega arith);
+      permits = subst (Permits from to) (sym (ap last_found is)) a.1.1;
+    }
 
 -- one more failed
 pub trying_more : (from to : Level) (i last n : ℕ) (u v w : View) → IsTrying from to i last u v → AnswersTry from to (i == 0) v w (Missed n) → IsTrying from to (i + 1) n u w
@@ -99,9 +120,6 @@ trying_more from to (suc i) last n u v w k a =
       failed = λ _. subst (All (HasFailed from to)) (sym is) (All-cons (HasFailed from to) t v.tries a.2.2 (k.failed (omega arith)));
       last_is = λ _. ap last_found is ∙ a.2.1;
     }
-  where
-    later : (i : ℕ) → (suc i == 0) ≡ false
-    later i = ne_eqb (suc i) 0 (λ e. omega arith)
 
 -- all that were allowed
 pub trying_all : (from to : Level) (tries last : ℕ) (old now : View) → 0 < tries → IsTrying from to tries last old now → HasFailedAll from to tries last old now

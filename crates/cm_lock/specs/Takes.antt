@@ -33,11 +33,17 @@ pub record HasTried (most : ℕ) (old now : View) : Type 0 where
   pub counts : MakesLooks most old now
 
 -- the level was taken, by an exchange behind a look: besides, the seat holds it
-pub record HasTaken (to : Level) (most : ℕ) (old now : View) : Type 0 where
+pub record GetsLevel (to : Level) (most : ℕ) (old now : View) : Type 0 where
   pub view : now ≡ record old { tries = now.tries; looks = now.looks; events = now.events; own = record old.own { level = to } }
   pub counts : MakesLooks most old now
   pub looked : old.looks < now.looks
   pub exchanged : old.events + now.looks < now.events + old.looks
+
+-- a take gave the level: each of its looks was a try of it, and the newest one found a word that permits the level
+pub record HasTaken (from to : Level) (most : ℕ) (old now : View) : Type 0 where
+  pub gets : GetsLevel to most old now
+  pub made : now.looks ≡ old.looks + length now.tries
+  pub permits : Permits from to (last_found now.tries)
 
 -- so many tries were made, one look each, and all failed; the newest found this word last
 pub record HasFailedAll (from to : Level) (tries : ℕ) (last : ℕ) (old now : View) : Type 0 where
@@ -49,7 +55,7 @@ pub record HasFailedAll (from to : Level) (tries : ℕ) (last : ℕ) (old now : 
 
 -- what a take of at most so many tries did where it answered this
 abbrev pub AnswersTake : Level → Level → ℕ → View → View → Result (Unit {0}) Stop → Type 0
-AnswersTake from to tries old now (Ok done) = HasTaken to tries old now
+AnswersTake from to tries old now (Ok done) = HasTaken from to tries old now
 AnswersTake from to tries old now (Err (Busy looks last)) = (looks ≡ tries) × HasFailedAll from to tries last old now
 AnswersTake from to tries old now (Err Died) = HasTried tries old now
 
@@ -59,8 +65,12 @@ ReportsStop old now (Ok done) = Survives old now
 ReportsStop old now (Err (Busy looks last)) = Survives old now
 ReportsStop old now (Err Died) = IsKilled old now × CountsForBudget Exchange old.fuse.budget
 
+-- this try was the first one of a take, or came behind its tries before it
+abbrev pub AddsTry : Bool → Try → View → View → Type 0
+AddsTry is_first t old now = now.tries ≡ t ∷ (if is_first then [] else old.tries)
+
 -- what one try did, the first one of a take or a later one
 abbrev pub AnswersTry : Level → Level → Bool → View → View → Tried → Type 0
-AnswersTry from to is_first old now Taken = HasTaken to 1 old now
+AnswersTry from to is_first old now Taken = GetsLevel to 1 old now × ((t : Try) × Permits from to t.found × AddsTry is_first t old now)
 AnswersTry from to is_first old now (Missed last) =
-    HasTried 1 old now × (now.looks ≡ old.looks + 1) × ((t : Try) × (t.found ≡ last) × HasFailed from to t × (now.tries ≡ t ∷ (if is_first then [] else old.tries)))
+    HasTried 1 old now × (now.looks ≡ old.looks + 1) × ((t : Try) × (t.found ≡ last) × HasFailed from to t × AddsTry is_first t old now)

@@ -1,5 +1,5 @@
 -- What a listing leaves of its pass (own).
-use Rattle.std.specs.Prelude.{ℕ, ◌≡◌, false, Result, Ok, Err, IfOk}
+use Rattle.std.specs.Prelude.{ℕ, ◌≡◌, false, Result, Ok, Err, IfOk, OnOk}
 use Rattle.cm_plain.specs.declared.stop.NoMemory.{NoMemory}
 use Rattle.cm_words.specs.Fuses.{FuseSeen}
 use Rattle.cm_lock.specs.declared.take.Stop.{Stop}
@@ -11,8 +11,9 @@ use Rattle.cm_turn.specs.declared.list_call.Listing.{Listing}
 use Rattle.cm_store.specs.declared.pass.Pass.{Pass}
 use Rattle.cm_store.specs.declared.store.Store.{Store}
 use Rattle.cm_turn.specs.Calls.{ReportsStop}
+use Rattle.cm_turn.specs.Looks.{TakesOnce}
 use Rattle.cm_turn.specs.SeatLists.{LeavesListing}
-use Rattle.cm_store.specs.Passes.{ActsAt, IsPassOf, IsResting, is_dead, is_died, number_of, pass_meter, sweep_of}
+use Rattle.cm_store.specs.Passes.{ActsAt, AlsoAt, IsPassOf, IsResting, is_dead, is_died, number_of, pass_meter, sweep_of}
 
 -- what a listing answered, without its segment, and with want of memory as one of its ends
 abbrev pub listing_of : Result Listed ListStop → Result (Result Listing NoMemory) Stop
@@ -27,6 +28,7 @@ pub record CalledList {F : Type 0} (fused : F → FuseSeen) (store : Store) (tri
   pub number : number_of now ≡ number_of old
   pub sweep : sweep_of now ≡ sweep_of old
   pub lists : ActsAt (λ was then before later. LeavesListing tries segment was then (listing_of result) × (later ≡ before)) segment old now
+  pub looks : AlsoAt (λ was then. OnOk (listing_of result) (TakesOnce tries was then)) segment old now
   pub fuse : ReportsStop (pass_meter fused old) (pass_meter fused now) (listing_of result)
   pub resting : is_dead now ≡ false → IsResting now
   pub dead : is_dead now ≡ is_died (listing_of result)

@@ -1,5 +1,5 @@
 -- Sweeps: what their calls ask of a pass, and what they leave of it (own).
-use Rattle.std.specs.Prelude.{ℕ, ◌≡◌, ◌≢◌, true, false, List, IfOk, IsSomeAnd, Some, Result, Ok, Err, length, slice_get, take}
+use Rattle.std.specs.Prelude.{ℕ, ◌≡◌, ◌≢◌, true, false, List, IfOk, OnOk, IsSomeAnd, Some, Result, Ok, Err, length, slice_get, take}
 use Rattle.std.specs.Result.{is_err}
 use Rattle.cm_geo.specs.declared.geo.Geo.{Geo}
 use Rattle.cm_plain.specs.declared.op.Op.{Op}
@@ -17,7 +17,8 @@ use Rattle.cm_store.specs.declared.pass.Pass.{Pass}
 use Rattle.cm_store.specs.declared.pass.Sweep.{Sweep}
 use Rattle.cm_store.specs.declared.store.Store.{Store}
 use Rattle.cm_turn.specs.Calls.{IsRefused, Leaves, ReportsStop}
-use Rattle.cm_store.specs.Passes.{ActsAt, IsPassOf, IsResting, IsSoAt, is_dead, is_died, number_of, pass_meter, settled_of, sweep_of, views_of}
+use Rattle.cm_turn.specs.Looks.{MayRaise, TakesOnce}
+use Rattle.cm_store.specs.Passes.{ActsAt, AlsoAt, IsPassOf, IsResting, IsSoAt, is_dead, is_died, number_of, pass_meter, settled_of, sweep_of, views_of}
 use Rattle.cm_turn.specs.Records.{Holds, IsIdle}
 use Rattle.cm_turn.specs.SeatSweeps.{Opens, Releases}
 
@@ -64,6 +65,7 @@ pub record OpenedSweep {F : Type 0} (fused : F → FuseSeen) (store : Store) (tr
   pub its : IsPassOf now store
   pub number : number_of now ≡ number_of old
   pub opens : ActsAt (λ was then before later. Opens tries was then before later result) segment old now
+  pub looks : AlsoAt (λ was then. OnOk result (TakesOnce tries was then)) segment old now
   pub fuse : ReportsStop (pass_meter fused old) (pass_meter fused now) result
   pub dead : is_dead now ≡ is_died result
   pub leaves : LeavesOpening store.geo segment prefix old now result
@@ -75,6 +77,7 @@ pub record SteppedSweep {F : Type 0} (fused : F → FuseSeen) (store : Store) (t
   pub steps : (segment : ℕ) (prefix : List ℕ) → IsInSweep store.geo segment prefix old
       → ActsAt (λ was then before later. Leaves (Holds Update) (IsRefused Update Write tries) segment store.geo.extra (op.Sweep segment prefix) out was then before later
       (settled_of result)) segment old now
+  pub looks : (segment : ℕ) (prefix : List ℕ) → IsInSweep store.geo segment prefix old → AlsoAt (λ was then. OnOk result (MayRaise 0 tries was then)) segment old now
   pub fuse : ReportsStop (pass_meter fused old) (pass_meter fused now) result
   pub dead : is_dead now ≡ is_died result
   pub stays : (segment : ℕ) (prefix : List ℕ) → IsInSweep store.geo segment prefix old → is_dead now ≡ false → IsInSweep store.geo segment prefix now

@@ -1,12 +1,14 @@
-//! The calls of a store: each by one pass, at the seat of its segment.
+//! The calls of a store: each by one pass, at the seat of its segment. A call answers Busy exactly where all tries of a take
+//! or of a raise of it failed, one look each, and the release behind it didn't die, and Died exactly where an event died.
 
-ghost use Rattle.std.specs.Prelude.{◌≡◌, ◌<◌, ◌≤◌, [], length};
+ghost use Rattle.std.specs.Prelude.{◌≡◌, ◌<◌, ◌≤◌, [], OnOk, length};
 ghost use Rattle.cm_geo.specs.Hash.{segment_of_key};
 ghost use Rattle.cm_plain.specs.declared.op.Op.TheVariants as op;
 ghost use Rattle.cm_lock.specs.declared.view.Level.TheVariants.{Free, Read, Write};
 ghost use Rattle.cm_turn.specs.Calls.{IsRefused, IsRefusedChange};
-ghost use Rattle.cm_store.specs.Passes.{AlsoAt, Called, MayCall};
-ghost use Rattle.cm_turn.specs.Rounds.{LooksBehindRounds};
+ghost use Rattle.cm_store.specs.Passes.{AlsoAt, Called, MayCall, settled_of};
+ghost use Rattle.cm_turn.specs.Looks.{MayRaise, TakesOnce};
+ghost use Rattle.cm_turn.specs.Rounds.{EndsGet};
 
 use crate::pass::Pass;
 use crate::store::Store;
@@ -37,7 +39,8 @@ impl Store {
     ) -> Result<Done, Stop>
         requires may { MayCall self.now (op.Put key.now value.now) pass.old }
         requires nonzero { 1 ≤ tries }
-        ensures { Called F.fused self.now (IsRefused Free Write tries) (op.Put key.now value.now) [] pass.old pass.new result }
+        ensures called { Called F.fused self.now (IsRefused Free Write tries) (op.Put key.now value.now) [] pass.old pass.new result }
+        ensures looks { AlsoAt (λ was then. OnOk (settled_of result) (TakesOnce tries was then)) (segment_of_key self.now.geo key.now) pass.old pass.new }
     {
         let operation = Put { key, value };
         let call = WriteCall { operation, tries };
@@ -58,6 +61,7 @@ impl Store {
         requires room { 4096 ≤ length out.old }
         requires nonzero { 1 ≤ tries }
         ensures called { Called F.fused self.now (IsRefusedChange tries) (op.PutIfAbsent key.now value.now) out.new pass.old pass.new result }
+        ensures looks { AlsoAt (λ was then. OnOk (settled_of result) (MayRaise tries tries was then)) (segment_of_key self.now.geo key.now) pass.old pass.new }
         ensures long { length out.new ≡ length out.old }
     {
         let call = AbsentCall { key, value, tries };
@@ -75,7 +79,8 @@ impl Store {
     ) -> Result<Done, Stop>
         requires may { MayCall self.now (op.Replace key.now value.now) pass.old }
         requires nonzero { 1 ≤ tries }
-        ensures { Called F.fused self.now (IsRefusedChange tries) (op.Replace key.now value.now) [] pass.old pass.new result }
+        ensures called { Called F.fused self.now (IsRefusedChange tries) (op.Replace key.now value.now) [] pass.old pass.new result }
+        ensures looks { AlsoAt (λ was then. OnOk (settled_of result) (MayRaise tries tries was then)) (segment_of_key self.now.geo key.now) pass.old pass.new }
     {
         let operation = Replace { key, value };
         let call = UpdateCall { operation, tries };
@@ -94,7 +99,8 @@ impl Store {
     ) -> Result<Done, Stop>
         requires may { MayCall self.now (op.ReplaceIf key.now expected.now value.now) pass.old }
         requires nonzero { 1 ≤ tries }
-        ensures { Called F.fused self.now (IsRefusedChange tries) (op.ReplaceIf key.now expected.now value.now) [] pass.old pass.new result }
+        ensures called { Called F.fused self.now (IsRefusedChange tries) (op.ReplaceIf key.now expected.now value.now) [] pass.old pass.new result }
+        ensures looks { AlsoAt (λ was then. OnOk (settled_of result) (MayRaise tries tries was then)) (segment_of_key self.now.geo key.now) pass.old pass.new }
     {
         let operation = ReplaceIf {
             key,
@@ -109,7 +115,8 @@ impl Store {
     pub fn remove<F: Fuse>(&self, pass: &mut Pass<F>, key: &[u8], tries: u32) -> Result<Done, Stop>
         requires may { MayCall self.now (op.Remove key.now) pass.old }
         requires nonzero { 1 ≤ tries }
-        ensures { Called F.fused self.now (IsRefused Free Write tries) (op.Remove key.now) [] pass.old pass.new result }
+        ensures called { Called F.fused self.now (IsRefused Free Write tries) (op.Remove key.now) [] pass.old pass.new result }
+        ensures looks { AlsoAt (λ was then. OnOk (settled_of result) (TakesOnce tries was then)) (segment_of_key self.now.geo key.now) pass.old pass.new }
     {
         let operation = Remove { key };
         let call = WriteCall { operation, tries };
@@ -127,7 +134,8 @@ impl Store {
     ) -> Result<Done, Stop>
         requires may { MayCall self.now (op.RemoveIf key.now expected.now) pass.old }
         requires nonzero { 1 ≤ tries }
-        ensures { Called F.fused self.now (IsRefusedChange tries) (op.RemoveIf key.now expected.now) [] pass.old pass.new result }
+        ensures called { Called F.fused self.now (IsRefusedChange tries) (op.RemoveIf key.now expected.now) [] pass.old pass.new result }
+        ensures looks { AlsoAt (λ was then. OnOk (settled_of result) (MayRaise tries tries was then)) (segment_of_key self.now.geo key.now) pass.old pass.new }
     {
         let operation = RemoveIf { key, expected };
         let call = UpdateCall { operation, tries };
@@ -138,7 +146,8 @@ impl Store {
     pub fn count<F: Fuse>(&self, pass: &mut Pass<F>, segment: u32, tries: u32) -> Result<Done, Stop>
         requires may { MayCall self.now (op.Count segment) pass.old }
         requires nonzero { 1 ≤ tries }
-        ensures { Called F.fused self.now (IsRefused Free Read tries) (op.Count segment) [] pass.old pass.new result }
+        ensures called { Called F.fused self.now (IsRefused Free Read tries) (op.Count segment) [] pass.old pass.new result }
+        ensures looks { AlsoAt (λ was then. OnOk (settled_of result) (TakesOnce tries was then)) segment pass.old pass.new }
     {
         let question = Count { segment };
         let call = ReadCall { question, tries };
@@ -158,7 +167,7 @@ impl Store {
         requires room { 4096 ≤ length out.old }
         requires nonzero { 1 ≤ tries }
         ensures called { Called F.fused self.now (IsRefused Free Read tries) (op.Get key.now) out.new pass.old pass.new result }
-        ensures looks { AlsoAt LooksBehindRounds (segment_of_key self.now.geo key.now) pass.old pass.new }
+        ensures looks { AlsoAt (λ was then. EndsGet tries was then (settled_of result)) (segment_of_key self.now.geo key.now) pass.old pass.new }
         ensures long { length out.new ≡ length out.old }
     {
         let call = GetCall { key, tries };

@@ -85,7 +85,7 @@ impl Store {
         ensures resting { is_dead pass.new ≡ false → IsResting pass.new }
         ensures dead { is_dead pass.new ≡ is_died result }
         ensures spot { IfOk result (λ done. done.spot.segment ≡ segment) }
-        ensures also { AlsoAt (C.also call.now) segment pass.old pass.new }
+        ensures also { AlsoAt (λ was then. C.also call.now was then (settled_of result)) segment pass.old pass.new }
         ensures long { length out.new ≡ length out.old }
     {
         let ended = self.act_at(pass, segment, &ByOperation { call }, out);

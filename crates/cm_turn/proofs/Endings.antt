@@ -31,11 +31,11 @@ nothing_by_look v u l = record {
   stores = l.stores;
 }
 
-pub nothing_by_take : (to : Level) (most : ℕ) (v u : View) → HasTaken to most v u → AddsNothing v u
-nothing_by_take to most v u t = record {
-  view = subst (λ (z : View). z ≡ with_record v.changes v.answers v z) (sym t.view) refl;
-  seen = subst (λ (z : View). v.seen ≤ z.seen) (sym t.view) (omega arith);
-  stores = ap (λ (z : View). z.stores) t.view;
+pub nothing_by_take : (from to : Level) (most : ℕ) (v u : View) → HasTaken from to most v u → AddsNothing v u
+nothing_by_take from to most v u t = record {
+  view = subst (λ (z : View). z ≡ with_record v.changes v.answers v z) (sym t.gets.view) refl;
+  seen = subst (λ (z : View). v.seen ≤ z.seen) (sym t.gets.view) (omega arith);
+  stores = ap (λ (z : View). z.stores) t.gets.view;
 }
 
 module _ (v u : View) (p : AddsNothing v u) where

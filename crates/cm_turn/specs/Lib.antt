@@ -3,6 +3,7 @@ pub mod Answers
 pub mod Verdicts
 pub mod Conditions
 pub mod Records
+pub mod Looks
 pub mod Turns
 pub mod Calls
 pub mod SeatCalls

@@ -1,5 +1,5 @@
 -- A get without a level: what one of its rounds leaves of its seat (own).
-use Rattle.std.specs.Prelude.{ℕ, ◌≡◌, ◌≢◌, ◌⊎◌, ◌+◌, ◌≤◌, false, List, length, Option, Some, None}
+use Rattle.std.specs.Prelude.{ℕ, ◌≡◌, ◌≢◌, ◌⊎◌, ◌+◌, ◌<◌, ◌≤◌, false, List, length, Option, Some, None, Result, Ok, Err}
 use Rattle.cm_geo.specs.declared.limits.TheConstants.{MAX_VALUE_BYTES}
 use Rattle.cm_plain.specs.declared.op.Op.{Op}
 use Rattle.cm_plain.specs.declared.op.Op.TheVariants.{Get}
@@ -16,7 +16,9 @@ use Rattle.cm_lock.specs.Rounds.{IsReplyToFound}
 use Rattle.cm_turn.specs.declared.answer.Answer.{Answer}
 use Rattle.cm_turn.specs.declared.turn.Settled.{Settled}
 use Rattle.cm_turn.specs.Answers.{HasBytes, reply_in}
+use Rattle.cm_lock.specs.declared.take.Stop.{Stop}
 use Rattle.cm_turn.specs.Calls.{AnswersAlone}
+use Rattle.cm_turn.specs.Looks.{TakesOnce}
 use Rattle.cm_turn.specs.Records.{AddsNothing, IsIdle}
 
 -- words were found in the open round, and nothing else was done
@@ -70,11 +72,30 @@ pub record FailsRounds (count : ℕ) (old now : View) : Type 0 where
   pub failed : now.failed_rounds ≡ old.failed_rounds + count
   pub looks : now.looks ≡ old.looks
 
--- a round gave the answer without a look at the lock word, or all failed
+-- a round gave the answer, behind fewer that failed, without a look at the lock word
+pub record AnswersInRounds (op : Op) (out : List ℕ) (old now : View) (settled : Settled) : Type 0 where
+  pub answers : AnswersAlone op out old now settled
+  pub failed : now.failed_rounds < old.failed_rounds + rounds
+  pub looks : now.looks ≡ old.looks
+
+-- what the rounds leave where none was ended by a death: one gave the answer, or all failed
 abbrev pub EndsRounds : Op → List ℕ → View → View → Option Settled → Type 0
-EndsRounds op out old now (Some settled) = AnswersAlone op out old now settled × (now.looks ≡ old.looks)
+EndsRounds op out old now (Some settled) = AnswersInRounds op out old now settled
 EndsRounds op out old now None = FailsRounds rounds old now
 
--- the lock word was looked at only behind as many rounds that failed
+-- ---- a whole get
+
+-- it had its answer from a round, behind fewer that failed and without a look at the lock word; or by one take, behind all rounds
+abbrev pub AnswersGet : ℕ → View → View → Type 0
+AnswersGet tries old now =
+    ((now.looks ≡ old.looks) × (now.failed_rounds < old.failed_rounds + rounds)) ⊎ (TakesOnce tries old now × (now.failed_rounds ≡ old.failed_rounds + rounds))
+
+-- no more rounds failed, and the lock word was looked at only behind all of them
 abbrev pub LooksBehindRounds : View → View → Type 0
-LooksBehindRounds old now = (now.looks ≡ old.looks) ⊎ (now.failed_rounds ≡ old.failed_rounds + rounds)
+LooksBehindRounds old now =
+    ((now.looks ≡ old.looks) × (now.failed_rounds ≤ old.failed_rounds + rounds)) ⊎ (now.failed_rounds ≡ old.failed_rounds + rounds)
+
+-- how often a get that ended so looked at the lock word, and behind how many rounds
+abbrev pub EndsGet : ℕ → View → View → Result Settled Stop → Type 0
+EndsGet tries old now (Ok settled) = AnswersGet tries old now
+EndsGet tries old now (Err stop) = LooksBehindRounds old now

@@ -13,6 +13,7 @@ ghost use Rattle.cm_lock.specs.Tables.{IsOf, key_of, level_of, view_of};
 ghost use Rattle.cm_lock.specs.declared.view.Level.TheVariants.{Free, Read, Update, Write};
 ghost use Rattle.cm_yard.specs.Yards.{IsOf as IsOfYard, view_of as yard_view_of};
 ghost use Rattle.cm_turn.specs.Calls.{Answers, AnswersAlone, DiesReading, LeavesReading, IsRefused, IsRefusedChange, Leaves, RaisesFor, ReportsStop, SettlesFrom};
+ghost use Rattle.cm_turn.specs.Looks.{LooksNever, MayRaise, TakesOnce};
 ghost use Rattle.cm_turn.specs.Records.{Holds, IsIdle};
 ghost use Rattle.cm_turn.specs.Turns.{DiesOwing, IsGround, turn_meter};
 
@@ -43,6 +44,7 @@ fn work_in_write<F: Fuse, O: Operation>(
     ensures its { IsOf seat.new ground.now.table.now }
     ensures claims_its { IsOfYard claims.new ground.now.yard.now }
     ensures fuse { ReportsDeath (turn_meter (F.fused fuse.old) (view_of seat.old) (yard_view_of claims.old)) (turn_meter (F.fused fuse.new) (view_of seat.new) (yard_view_of claims.new)) result }
+    ensures looks { LooksNever (view_of seat.old) (view_of seat.new) }
     ensures answers { IfOk result (Answers IsIdle ground.now.segment ground.now.geo.now.extra (O.op operation.now) out.new (view_of seat.old) (view_of seat.new) (yard_view_of claims.old) (yard_view_of claims.new)) }
     ensures dead { OnErr result (DiesOwing ground.now.segment (O.op operation.now) (view_of seat.old) (view_of seat.new) (yard_view_of claims.old) (yard_view_of claims.new)) }
     ensures long { length out.new ≡ length out.old }
@@ -75,6 +77,7 @@ pub(crate) fn act_in_write<F: Fuse, O: Operation>(
     ensures its { IsOf seat.new ground.now.table.now }
     ensures claims_its { IsOfYard claims.new ground.now.yard.now }
     ensures fuse { ReportsStop (turn_meter (F.fused fuse.old) (view_of seat.old) (yard_view_of claims.old)) (turn_meter (F.fused fuse.new) (view_of seat.new) (yard_view_of claims.new)) result }
+    ensures looks { OnOk result (TakesOnce tries (view_of seat.old) (view_of seat.new)) }
     ensures leaves { Leaves IsIdle (IsRefused Free Write tries) ground.now.segment ground.now.geo.now.extra (O.op operation.now) out.new (view_of seat.old) (view_of seat.new) (yard_view_of claims.old) (yard_view_of claims.new) result }
     ensures long { length out.new ≡ length out.old }
 {
@@ -98,6 +101,7 @@ fn raise_for<F: Fuse>(
     requires nonzero { 1 ≤ tries }
     ensures its { IsOf seat.new table.now }
     ensures fuse { ReportsStop (seat_meter (F.fused fuse.old) (view_of seat.old)) (seat_meter (F.fused fuse.new) (view_of seat.new)) result }
+    ensures looks { OnOk result (MayRaise 0 tries (view_of seat.old) (view_of seat.new)) }
     ensures raises { RaisesFor verdict.now tries (view_of seat.old) (view_of seat.new) result }
 {
     match verdict {
@@ -126,6 +130,7 @@ pub(crate) fn settle_from_update<F: Fuse>(
     ensures its { IsOf seat.new ground.now.table.now }
     ensures claims_its { IsOfYard claims.new ground.now.yard.now }
     ensures fuse { ReportsStop (turn_meter (F.fused fuse.old) (view_of seat.old) (yard_view_of claims.old)) (turn_meter (F.fused fuse.new) (view_of seat.new) (yard_view_of claims.new)) result }
+    ensures looks { OnOk result (MayRaise 0 tries (view_of seat.old) (view_of seat.new)) }
     ensures settles { SettlesFrom tries ground.now.segment ground.now.geo.now.extra (op_of_ask ask.entry) out.now (view_of seat.old) (view_of seat.new) (yard_view_of claims.old) (yard_view_of claims.new) result }
 {
     raise_for(ground.table, seat, fuse, &verdict, tries)?;
@@ -157,6 +162,7 @@ pub(crate) fn work_in_update<F: Fuse, O: Operation>(
     ensures its { IsOf seat.new ground.now.table.now }
     ensures claims_its { IsOfYard claims.new ground.now.yard.now }
     ensures fuse { ReportsStop (turn_meter (F.fused fuse.old) (view_of seat.old) (yard_view_of claims.old)) (turn_meter (F.fused fuse.new) (view_of seat.new) (yard_view_of claims.new)) result }
+    ensures looks { OnOk result (MayRaise 0 tries (view_of seat.old) (view_of seat.new)) }
     ensures leaves { Leaves IsIdle (IsRefused Update Write tries) ground.now.segment ground.now.geo.now.extra (O.op operation.now) out.new (view_of seat.old) (view_of seat.new) (yard_view_of claims.old) (yard_view_of claims.new) result }
     ensures long { length out.new ≡ length out.old }
 {
@@ -208,6 +214,7 @@ pub(crate) fn act_in_update<F: Fuse, O: Operation>(
     ensures its { IsOf seat.new ground.now.table.now }
     ensures claims_its { IsOfYard claims.new ground.now.yard.now }
     ensures fuse { ReportsStop (turn_meter (F.fused fuse.old) (view_of seat.old) (yard_view_of claims.old)) (turn_meter (F.fused fuse.new) (view_of seat.new) (yard_view_of claims.new)) result }
+    ensures looks { OnOk result (MayRaise tries tries (view_of seat.old) (view_of seat.new)) }
     ensures leaves { Leaves IsIdle (IsRefusedChange tries) ground.now.segment ground.now.geo.now.extra (O.op operation.now) out.new (view_of seat.old) (view_of seat.new) (yard_view_of claims.old) (yard_view_of claims.new) result }
     ensures long { length out.new ≡ length out.old }
 {
@@ -231,6 +238,7 @@ fn work_in_read<F: Fuse, Q: Question>(
     requires room { Q.room question.now ≤ length out.old }
     ensures its { IsOf seat.new ground.now.table.now }
     ensures fuse { ReportsDeath (seat_meter (F.fused fuse.old) (view_of seat.old)) (seat_meter (F.fused fuse.new) (view_of seat.new)) result }
+    ensures looks { LooksNever (view_of seat.old) (view_of seat.new) }
     ensures answers { IfOk result (AnswersAlone (Q.op question.now) out.new (view_of seat.old) (view_of seat.new)) }
     ensures dead { OnErr result (DiesReading (Q.op question.now) (view_of seat.old) (view_of seat.new)) }
     ensures rounds { (view_of seat.new).failed_rounds ≡ (view_of seat.old).failed_rounds }
@@ -260,6 +268,7 @@ pub(crate) fn ask_in_read<F: Fuse, Q: Question>(
     requires nonzero { 1 ≤ tries }
     ensures its { IsOf seat.new ground.now.table.now }
     ensures fuse { ReportsStop (seat_meter (F.fused fuse.old) (view_of seat.old)) (seat_meter (F.fused fuse.new) (view_of seat.new)) result }
+    ensures looks { OnOk result (TakesOnce tries (view_of seat.old) (view_of seat.new)) }
     ensures leaves { LeavesReading tries (Q.op question.now) out.new (view_of seat.old) (view_of seat.new) result }
     ensures rounds { (view_of seat.new).failed_rounds ≡ (view_of seat.old).failed_rounds }
     ensures long { length out.new ≡ length out.old }

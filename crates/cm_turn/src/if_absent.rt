@@ -1,7 +1,7 @@
 //! A put of a value where the key has none: under Update, which a change raises to Write, and a value that is there
 //! lowers to Read.
 
-ghost use Rattle.std.specs.Prelude.{◌≡◌, ◌≢◌, ◌≤◌, IfOk, IfSome, None, OnErr, Some, length};
+ghost use Rattle.std.specs.Prelude.{◌≡◌, ◌≢◌, ◌≤◌, IfOk, IfSome, None, OnErr, OnOk, Some, length};
 ghost use Rattle.cm_plain.specs.declared.op.Op.TheVariants.{PutIfAbsent as PutIfAbsentOp};
 ghost use Rattle.cm_plain.specs.Limits.{KeepsLimits, segment_of};
 ghost use Rattle.cm_plain.specs.Plans.{op_of_ask};
@@ -14,6 +14,7 @@ ghost use Rattle.cm_lock.specs.Tables.{IsOf, key_of, level_of, view_of};
 ghost use Rattle.cm_yard.specs.Yards.{IsOf as IsOfYard, view_of as yard_view_of};
 ghost use Rattle.cm_turn.specs.Calls.{AnswersAlone, DiesReading, IsRefused, Leaves, ReportsStop};
 ghost use Rattle.cm_turn.specs.Conditions.{FindsHere};
+ghost use Rattle.cm_turn.specs.Looks.{LooksNever, MayRaise};
 ghost use Rattle.cm_turn.specs.Records.{HasLooked, Holds, IsIdle};
 ghost use Rattle.cm_turn.specs.Turns.{IsGround, turn_meter};
 ghost use Rattle.cm_turn.specs.Verdicts.{StaysBy};
@@ -135,6 +136,7 @@ impl AbsentCall<'_> {
         requires room { 4096 ≤ length out.old }
         ensures its { IsOf seat.new ground.now.table.now }
         ensures fuse { ReportsDeath (seat_meter (F.fused fuse.old) (view_of seat.old)) (seat_meter (F.fused fuse.new) (view_of seat.new)) result }
+        ensures looks { LooksNever (view_of seat.old) (view_of seat.new) }
         ensures answers { IfOk result (AnswersAlone (PutIfAbsentOp self.now.key.now self.now.value.now) out.new (view_of seat.old) (view_of seat.new)) }
         ensures dead { OnErr result (DiesReading (PutIfAbsentOp self.now.key.now self.now.value.now) (view_of seat.old) (view_of seat.new)) }
         ensures long { length out.new ≡ length out.old }
@@ -162,6 +164,7 @@ impl AbsentCall<'_> {
         requires room { 4096 ≤ length out.old }
         ensures its { IsOf seat.new ground.now.table.now }
         ensures fuse { ReportsDeath (seat_meter (F.fused fuse.old) (view_of seat.old)) (seat_meter (F.fused fuse.new) (view_of seat.new)) result }
+        ensures looks { LooksNever (view_of seat.old) (view_of seat.new) }
         ensures answers { IfOk result (AnswersAlone (PutIfAbsentOp self.now.key.now self.now.value.now) out.new (view_of seat.old) (view_of seat.new)) }
         ensures dead { OnErr result (DiesReading (PutIfAbsentOp self.now.key.now self.now.value.now) (view_of seat.old) (view_of seat.new)) }
         ensures long { length out.new ≡ length out.old }
@@ -190,6 +193,7 @@ impl AbsentCall<'_> {
         ensures its { IsOf seat.new ground.now.table.now }
         ensures claims_its { IsOfYard claims.new ground.now.yard.now }
         ensures fuse { ReportsStop (turn_meter (F.fused fuse.old) (view_of seat.old) (yard_view_of claims.old)) (turn_meter (F.fused fuse.new) (view_of seat.new) (yard_view_of claims.new)) result }
+        ensures looks { OnOk result (MayRaise 0 self.now.tries (view_of seat.old) (view_of seat.new)) }
         ensures leaves { Leaves IsIdle (IsRefused Update Write self.now.tries) ground.now.segment ground.now.geo.now.extra (PutIfAbsentOp self.now.key.now self.now.value.now) out.new (view_of seat.old) (view_of seat.new) (yard_view_of claims.old) (yard_view_of claims.new) result }
         ensures long { length out.new ≡ length out.old }
     {
@@ -223,7 +227,7 @@ impl OperationCall for AbsentCall<'_> {
 
     ghost refused = { λ call. IsRefusedChange call.tries };
 
-    ghost also = { λ call was now. Unit {0} };
+    ghost also = { λ call was now result. OnOk result (MayRaise call.tries call.tries was now) };
 
     fn act<F: Fuse>(
         &self,

@@ -1,12 +1,13 @@
 //! A listing by one seat: the pairs are collected and entered under Read.
 
-ghost use Rattle.std.specs.Prelude.{◌≡◌, ◌≢◌, ◌≤◌, IfOk, None, OnErr};
+ghost use Rattle.std.specs.Prelude.{◌≡◌, ◌≢◌, ◌≤◌, IfOk, None, OnErr, OnOk};
 ghost use Rattle.cm_plain.specs.declared.op.Op.TheVariants as op;
 ghost use Rattle.cm_words.specs.Meters.{ReportsDeath};
 ghost use Rattle.cm_lock.specs.Rule.{known_of, seat_meter};
 ghost use Rattle.cm_lock.specs.Tables.{IsOf, key_of, level_of, view_of};
 ghost use Rattle.cm_lock.specs.declared.view.Level.TheVariants.{Free, Read};
 ghost use Rattle.cm_turn.specs.Calls.{DiesReading, ReportsStop};
+ghost use Rattle.cm_turn.specs.Looks.{LooksNever, TakesOnce};
 ghost use Rattle.cm_turn.specs.SeatLists.{EndsListing, LeavesListing, ListsHere};
 ghost use Rattle.cm_turn.specs.Records.{HasLooked, Holds, IsIdle};
 ghost use Rattle.cm_turn.specs.Turns.{IsGround};
@@ -70,6 +71,7 @@ fn work_in_read<F: Fuse>(
     requires holds { Holds Read (view_of seat.old) }
     ensures its { IsOf seat.new ground.now.table.now }
     ensures fuse { ReportsDeath (seat_meter (F.fused fuse.old) (view_of seat.old)) (seat_meter (F.fused fuse.new) (view_of seat.new)) result }
+    ensures looks { LooksNever (view_of seat.old) (view_of seat.new) }
     ensures ends { IfOk result (EndsListing call.now.segment (view_of seat.old) (view_of seat.new)) }
     ensures dead { OnErr result (DiesReading (op.List call.now.segment) (view_of seat.old) (view_of seat.new)) }
 {
@@ -101,6 +103,7 @@ fn list_in_read<F: Fuse>(
     requires nonzero { 1 ≤ call.now.tries }
     ensures its { IsOf seat.new ground.now.table.now }
     ensures fuse { ReportsStop (seat_meter (F.fused fuse.old) (view_of seat.old)) (seat_meter (F.fused fuse.new) (view_of seat.new)) result }
+    ensures looks { OnOk result (TakesOnce call.now.tries (view_of seat.old) (view_of seat.new)) }
     ensures leaves { LeavesListing call.now.tries call.now.segment (view_of seat.old) (view_of seat.new) result }
 {
     ground.table.read(seat, fuse, call.tries)?;
@@ -119,7 +122,7 @@ impl SeatCall for ListCall {
 
     ghost room = { λ call. 0 };
 
-    ghost leaves = { λ call segment extra out was now before later result. LeavesListing call.tries call.segment was now result × (later ≡ before) };
+    ghost leaves = { λ call segment extra out was now before later result. LeavesListing call.tries call.segment was now result × (later ≡ before) × OnOk result (TakesOnce call.tries was now) };
 
     fn act<F: Fuse>(
         &self,

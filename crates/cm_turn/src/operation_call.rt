@@ -1,14 +1,17 @@
 //! Calls of an operation by one seat, each under its level.
 
-ghost use Rattle.std.specs.Prelude.{◌≡◌, ◌≤◌, length, ℕ};
+ghost use Rattle.std.specs.Prelude.{◌≡◌, ◌≤◌, OnOk, Result, length, ℕ};
 ghost use Rattle.cm_geo.specs.declared.geo.Geo.{Geo as GeoSeen};
 ghost use Rattle.cm_plain.specs.declared.op.Op.{Op};
 ghost use Rattle.cm_plain.specs.Limits.{KeepsLimits, segment_of};
+ghost use Rattle.cm_lock.specs.declared.take.Stop.{Stop as StopSeen};
 ghost use Rattle.cm_lock.specs.declared.view.Level.TheVariants.{Free, Read, Write};
 ghost use Rattle.cm_lock.specs.declared.view.View.{View};
 ghost use Rattle.cm_lock.specs.Tables.{IsOf, view_of};
 ghost use Rattle.cm_yard.specs.Yards.{IsOf as IsOfYard, view_of as yard_view_of};
+ghost use Rattle.cm_turn.specs.declared.turn.Settled.{Settled as SettledSeen};
 ghost use Rattle.cm_turn.specs.Calls.{Leaves, ReportsStop};
+ghost use Rattle.cm_turn.specs.Looks.{MayRaise, TakesOnce};
 ghost use Rattle.cm_turn.specs.Records.{IsIdle};
 ghost use Rattle.cm_turn.specs.Turns.{IsGround, turn_meter};
 
@@ -35,8 +38,8 @@ pub trait OperationCall {
     // which takes of it may have failed
     ghost refused: { Self → ℕ → ℕ → View → Type 0 };
 
-    // what else is so of the seat before and after it
-    ghost also: { Self → View → View → Type 0 };
+    // what else is so of the seat before and after it, and the answer
+    ghost also: { Self → View → View → Result SettledSeen StopSeen → Type 0 };
 
     fn act<F: Fuse>(
         &self,
@@ -58,7 +61,7 @@ pub trait OperationCall {
         ensures claims_its { IsOfYard claims.new ground.now.yard.now }
         ensures fuse { ReportsStop (turn_meter (F.fused fuse.old) (view_of seat.old) (yard_view_of claims.old)) (turn_meter (F.fused fuse.new) (view_of seat.new) (yard_view_of claims.new)) result }
         ensures leaves { Leaves IsIdle (refused self.now) ground.now.segment ground.now.geo.now.extra (op self.now) out.new (view_of seat.old) (view_of seat.new) (yard_view_of claims.old) (yard_view_of claims.new) result }
-        ensures also { also self.now (view_of seat.old) (view_of seat.new) }
+        ensures also { also self.now (view_of seat.old) (view_of seat.new) result }
         ensures long { length out.new ≡ length out.old };
 }
 
@@ -81,7 +84,7 @@ impl<O: Operation> OperationCall for WriteCall<O> {
 
     ghost refused = { λ call. IsRefused Free Write call.tries };
 
-    ghost also = { λ call was now. Unit {0} };
+    ghost also = { λ call was now result. OnOk result (TakesOnce call.tries was now) };
 
     fn act<F: Fuse>(
         &self,
@@ -114,7 +117,7 @@ impl<O: Operation> OperationCall for UpdateCall<O> {
 
     ghost refused = { λ call. IsRefusedChange call.tries };
 
-    ghost also = { λ call was now. Unit {0} };
+    ghost also = { λ call was now result. OnOk result (MayRaise call.tries call.tries was now) };
 
     fn act<F: Fuse>(
         &self,
@@ -147,7 +150,7 @@ impl<Q: Question> OperationCall for ReadCall<Q> {
 
     ghost refused = { λ call. IsRefused Free Read call.tries };
 
-    ghost also = { λ call was now. Unit {0} };
+    ghost also = { λ call was now result. OnOk result (TakesOnce call.tries was now) };
 
     fn act<F: Fuse>(
         &self,
@@ -171,7 +174,7 @@ pub struct GetCall<'a> {
 impl OperationCall for GetCall<'_> {
     ghost use Rattle.cm_plain.specs.declared.op.Op.TheVariants.{Get as GetOp};
     ghost use Rattle.cm_turn.specs.Calls.{IsRefused};
-    ghost use Rattle.cm_turn.specs.Rounds.{LooksBehindRounds};
+    ghost use Rattle.cm_turn.specs.Rounds.{EndsGet};
     ghost use Rattle.cm_turn.specs.SeatCalls.{IsNonzero};
 
     ghost op = { λ call. GetOp call.key.now };
@@ -182,7 +185,7 @@ impl OperationCall for GetCall<'_> {
 
     ghost refused = { λ call. IsRefused Free Read call.tries };
 
-    ghost also = { λ call was now. LooksBehindRounds was now };
+    ghost also = { λ call. EndsGet call.tries };
 
     fn act<F: Fuse>(
         &self,
@@ -220,7 +223,7 @@ impl<C: OperationCall> SeatCall for ByOperation<'_, C> {
 
     ghost room = { λ by. C.room by.call.now };
 
-    ghost leaves = { λ by segment extra out was now before later result. Leaves IsIdle (C.refused by.call.now) segment extra (C.op by.call.now) out was now before later result × C.also by.call.now was now };
+    ghost leaves = { λ by segment extra out was now before later result. Leaves IsIdle (C.refused by.call.now) segment extra (C.op by.call.now) out was now before later result × C.also by.call.now was now result };
 
     fn act<F: Fuse>(
         &self,

@@ -1,13 +1,13 @@
 //! A get without a level: rounds of loads beside the writers.
 
-ghost use Rattle.std.specs.Prelude.{◌≡◌, ◌≤◌, IfOk, IsSome, OnErr, length};
+ghost use Rattle.std.specs.Prelude.{◌≡◌, ◌+◌, ◌≤◌, IfOk, IsSome, OnErr, length};
 ghost use Rattle.cm_plain.specs.declared.op.Op.TheVariants.{Get};
 ghost use Rattle.cm_words.specs.Meters.{ReportsDeath};
 ghost use Rattle.cm_lock.specs.Rule.{seat_meter};
 ghost use Rattle.cm_lock.specs.Tables.{IsOf, key_of, view_of};
 ghost use Rattle.cm_turn.specs.Calls.{DiesReading};
 ghost use Rattle.cm_turn.specs.Records.{IsIdle};
-ghost use Rattle.cm_turn.specs.Rounds.{EndsRound, EndsRounds, IsAnswerTo, IsFoundAnswer, Peeks};
+ghost use Rattle.cm_turn.specs.Rounds.{EndsRound, EndsRounds, IsAnswerTo, IsFoundAnswer, Peeks, rounds};
 ghost use Rattle.cm_turn.specs.Turns.{IsGround};
 
 use crate::answer::Answer;
@@ -69,6 +69,7 @@ fn get_in_round<F: Fuse>(
     ensures fuse { ReportsDeath (seat_meter (F.fused fuse.old) (view_of seat.old)) (seat_meter (F.fused fuse.new) (view_of seat.new)) result }
     ensures ends { IfOk result (EndsRound (Get key.now) out.new (view_of seat.old) (view_of seat.new)) }
     ensures dead { OnErr result (DiesReading (Get key.now) (view_of seat.old) (view_of seat.new)) }
+    ensures rounds { OnErr result ((view_of seat.new).failed_rounds ≡ (view_of seat.old).failed_rounds) }
     ensures looks { (view_of seat.new).looks ≡ (view_of seat.old).looks }
     ensures long { length out.new ≡ length out.old }
 {
@@ -105,6 +106,7 @@ pub(crate) fn get_in_rounds<F: Fuse>(
     ensures fuse { ReportsDeath (seat_meter (F.fused fuse.old) (view_of seat.old)) (seat_meter (F.fused fuse.new) (view_of seat.new)) result }
     ensures ends { IfOk result (EndsRounds (Get key.now) out.new (view_of seat.old) (view_of seat.new)) }
     ensures dead { OnErr result (DiesReading (Get key.now) (view_of seat.old) (view_of seat.new)) }
+    ensures rounds { OnErr result ((view_of seat.new).failed_rounds ≤ (view_of seat.old).failed_rounds + rounds) }
     ensures looks { (view_of seat.new).looks ≡ (view_of seat.old).looks }
     ensures long { length out.new ≡ length out.old }
 {

@@ -1,6 +1,6 @@
 //! The calls of a sweep by one seat: the opening, the steps, and the closing.
 
-ghost use Rattle.std.specs.Prelude.{◌≡◌, ◌≢◌, ◌≤◌, ◌⊎◌, IfOk, IfSome, None, OnErr, false, length};
+ghost use Rattle.std.specs.Prelude.{◌≡◌, ◌≢◌, ◌≤◌, ◌⊎◌, IfOk, IfSome, None, OnErr, OnOk, false, length};
 ghost use Rattle.cm_plain.specs.declared.op.Op.TheVariants as op;
 ghost use Rattle.cm_plain.specs.Limits.{KeepsLimits};
 ghost use Rattle.cm_plain.specs.Steps.{would_change};
@@ -12,6 +12,7 @@ ghost use Rattle.cm_lock.specs.declared.view.Level.TheVariants.{Free, Update, Wr
 ghost use Rattle.cm_yard.specs.Yards.{IsOf as IsOfYard, view_of as yard_view_of};
 ghost use Rattle.cm_turn.specs.Calls.{IsRefused, Leaves, ReportsStop};
 ghost use Rattle.cm_turn.specs.Conditions.{EachHere, IsSwept};
+ghost use Rattle.cm_turn.specs.Looks.{LooksNever, MayRaise, TakesOnce};
 ghost use Rattle.cm_turn.specs.Records.{HasLooked, Holds};
 ghost use Rattle.cm_turn.specs.SeatSweeps.{FindsNext, IsLowered};
 ghost use Rattle.cm_turn.specs.Turns.{IsGround, turn_meter};
@@ -121,6 +122,7 @@ fn tell_none<F: Fuse>(
     requires none { EachHere (known_of (key_of ground.now.table.now) (view_of seat.old).own) ground.now.geo.now (λ state. would_change (op.Sweep ground.now.segment prefix.now) state ≡ false) }
     ensures its { IsOf seat.new ground.now.table.now }
     ensures fuse { ReportsStop (turn_meter (F.fused fuse.old) (view_of seat.old) (yard_view_of claims.now)) (turn_meter (F.fused fuse.new) (view_of seat.new) (yard_view_of claims.now)) result }
+    ensures looks { LooksNever (view_of seat.old) (view_of seat.new) }
     ensures leaves { Leaves (Holds Update) (IsRefused Update Write tries) ground.now.segment ground.now.geo.now.extra (op.Sweep ground.now.segment prefix.now) out.now (view_of seat.old) (view_of seat.new) (yard_view_of claims.now) (yard_view_of claims.now) result }
 {
     let ask = Ask::Sweep {
@@ -156,6 +158,7 @@ fn take_found<F: Fuse>(
     ensures its { IsOf seat.new ground.now.table.now }
     ensures claims_its { IsOfYard claims.new ground.now.yard.now }
     ensures fuse { ReportsStop (turn_meter (F.fused fuse.old) (view_of seat.old) (yard_view_of claims.old)) (turn_meter (F.fused fuse.new) (view_of seat.new) (yard_view_of claims.new)) result }
+    ensures looks { OnOk result (MayRaise 0 tries (view_of seat.old) (view_of seat.new)) }
     ensures leaves { Leaves (Holds Update) (IsRefused Update Write tries) ground.now.segment ground.now.geo.now.extra (op.Sweep operation.now.segment operation.now.prefix.now) out.new (view_of seat.old) (view_of seat.new) (yard_view_of claims.old) (yard_view_of claims.new) result }
     ensures long { length out.new ≡ length out.old }
 {
@@ -193,7 +196,7 @@ impl SeatCall for OpenCall {
 
     ghost room = { λ call. 0 };
 
-    ghost leaves = { λ call segment extra out was now before later result. Opens call.tries was now before later result };
+    ghost leaves = { λ call segment extra out was now before later result. Opens call.tries was now before later result × OnOk result (TakesOnce call.tries was now) };
 
     fn act<F: Fuse>(
         &self,
@@ -225,7 +228,7 @@ impl SeatCall for StepCall<'_> {
 
     ghost room = { λ call. 256 };
 
-    ghost leaves = { λ call segment extra out was now before later result. Leaves (Holds Update) (IsRefused Update Write call.tries) segment extra (op.Sweep call.segment call.prefix.now) out was now before later (settled_in result) };
+    ghost leaves = { λ call segment extra out was now before later result. Leaves (Holds Update) (IsRefused Update Write call.tries) segment extra (op.Sweep call.segment call.prefix.now) out was now before later (settled_in result) × OnOk result (MayRaise 0 call.tries was now) };
 
     fn act<F: Fuse>(
         &self,

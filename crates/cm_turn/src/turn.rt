@@ -7,6 +7,7 @@ ghost use Rattle.cm_lock.specs.Calls.{MakesOneEvent};
 ghost use Rattle.cm_yard.specs.Claims.{seat_meter as yard_meter};
 ghost use Rattle.cm_yard.specs.Yards.{IsOf as IsOfYard, view_of as yard_view_of};
 ghost use Rattle.cm_turn.specs.Answers.{HasBytes, reply_in};
+ghost use Rattle.cm_turn.specs.Looks.{LooksNever};
 ghost use Rattle.cm_turn.specs.Turns.{DiesOwing, IsGranted, IsGround, Settles, ClaimsNone, turn_meter};
 ghost use Rattle.cm_plain.specs.Steps.{is_change};
 ghost use Rattle.std.specs.Prelude.{false};
@@ -183,6 +184,7 @@ pub(crate) fn settle<F: Fuse>(
     ensures its { IsOf seat.new ground.now.table.now }
     ensures claims_its { IsOfYard claims.new ground.now.yard.now }
     ensures fuse { ReportsDeath (turn_meter (F.fused fuse.old) (view_of seat.old) (yard_view_of claims.old)) (turn_meter (F.fused fuse.new) (view_of seat.new) (yard_view_of claims.new)) result }
+    ensures looks { LooksNever (view_of seat.old) (view_of seat.new) }
     ensures settles { IfOk result (Settles ground.now.segment ground.now.geo.now.extra (op_of_ask ask.entry) out.now (view_of seat.old) (view_of seat.new) (yard_view_of claims.old) (yard_view_of claims.new)) }
     ensures dead { OnErr result (DiesOwing ground.now.segment (op_of_ask ask.entry) (view_of seat.old) (view_of seat.new) (yard_view_of claims.old) (yard_view_of claims.new)) }
 {

@@ -22,7 +22,7 @@ returns-clause-left g c =
     let segment = segment_of c.args.store.now.geo op in
     let extra = c.args.store.now.geo.extra in
     let pass = c.put-told.new.pass in
-    let acts = c.put-told.ensures.calls in
+    let acts = c.put-told.ensures.called.calls in
     let all = leaves_any IsIdle (IsRefused Free Write 1) segment extra op [] acts.was acts.then (claims_view c.args.pass) (claims_view pass) (settled_of c.put-told.result) acts.acts in
     let put : AreLeft true (views_of pass) (claims_view pass) =
     subst (λ (vs : List View). AreLeft true vs (claims_view pass)) (sym acts.others)
@@ -48,7 +48,7 @@ returns-clause-owes g c =
     let segment = segment_of c.args.store.now.geo op in
     let extra = c.args.store.now.geo.extra in
     let pass = c.put-told.new.pass in
-    let acts = c.put-told.ensures.calls in
+    let acts = c.put-told.ensures.called.calls in
     let all = leaves_any IsIdle (IsRefused Free Write 1) segment extra op [] acts.was acts.then (claims_view c.args.pass) (claims_view pass) (settled_of c.put-told.result) acts.acts in
     let put : OwesAtMost (0 + deaths_in (settled_of c.put-told.result)) (views_of pass) (claims_view pass) =
     subst (λ (vs : List View). OwesAtMost (0 + deaths_in (settled_of c.put-told.result)) vs (claims_view pass)) (sym acts.others)

@@ -8,15 +8,15 @@ returns-in-Get g c = record {
 
 pub returns-in-Remove : goal.returns-in-Remove
 returns-in-Remove g c = record {
-  pass = player_called g.F.Fuse.fused c.args.store.now _ _ _ c.args.pass.now c.remove.new.pass c.remove.result c.requires.pass c.remove.ensures;
+  pass = player_called g.F.Fuse.fused c.args.store.now _ _ _ c.args.pass.now c.remove.new.pass c.remove.result c.requires.pass c.remove.ensures.called;
 }
 
 pub returns-in-RemoveIf : goal.returns-in-RemoveIf
 returns-in-RemoveIf g c = record {
-  pass = player_called g.F.Fuse.fused c.args.store.now _ _ _ c.args.pass.now c.remove_if.new.pass c.remove_if.result c.requires.pass c.remove_if.ensures;
+  pass = player_called g.F.Fuse.fused c.args.store.now _ _ _ c.args.pass.now c.remove_if.new.pass c.remove_if.result c.requires.pass c.remove_if.ensures.called;
 }
 
 pub returns-in-Count : goal.returns-in-Count
 returns-in-Count g c = record {
-  pass = player_called g.F.Fuse.fused c.args.store.now _ _ _ c.args.pass.now c.count.new.pass c.count.result c.requires.pass c.count.ensures;
+  pass = player_called g.F.Fuse.fused c.args.store.now _ _ _ c.args.pass.now c.count.new.pass c.count.result c.requires.pass c.count.ensures.called;
 }

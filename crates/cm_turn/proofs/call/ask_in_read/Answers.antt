@@ -4,5 +4,5 @@ use Rattle.cm_turn.proofs.call.ask_in_read.Goals as goal
 
 pub returns-in-Err-clause-leaves : goal.returns-in-Err-clause-leaves
 returns-in-Err-clause-leaves g c =
-    reading_then (view_of c.args.seat.now) (view_of c.read.new.seat) (nothing_by_take _ _ _ _ c.in_ok-read.ensures.takes) (g.Q.Question.op c.args.question.now)
+    reading_then (view_of c.args.seat.now) (view_of c.read.new.seat) (nothing_by_take _ _ _ _ _ c.in_ok-read.ensures.takes) (g.Q.Question.op c.args.question.now)
     (view_of c.work_in_read.new.seat) c.in-Err.ensures.dead

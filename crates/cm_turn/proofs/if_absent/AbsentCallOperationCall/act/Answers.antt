@@ -10,7 +10,7 @@ use Rattle.cm_turn.proofs.if_absent.AbsentCallOperationCall.act.Goals as goal
 
 pub returns-clause-leaves : goal.returns-clause-leaves
 returns-clause-leaves g c =
-    leaves_then (view_of c.args.seat.now) (view_of c.update.new.seat) (nothing_by_take _ _ _ _ c.in_ok-update.ensures.takes) IsIdle (IsRefused Update Write c.args.self.now.tries)
+    leaves_then (view_of c.args.seat.now) (view_of c.update.new.seat) (nothing_by_take _ _ _ _ _ c.in_ok-update.ensures.takes) IsIdle (IsRefused Update Write c.args.self.now.tries)
     (IsRefusedChange c.args.self.now.tries) c.args.ground.now.segment c.args.ground.now.geo.now.extra (PutIfAbsent c.args.self.now.key.now c.args.self.now.value.now) c.work.new.out
     (view_of c.work.new.seat) (yard_view_of c.args.claims.now) (yard_view_of c.work.new.claims) c.work.result (λ looks last refused. inr refused)
     c.work.ensures.leaves
