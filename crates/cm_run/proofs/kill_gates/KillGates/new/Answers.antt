@@ -1,0 +1,7 @@
+use Rattle.std.proofs.Common.{◌≡◌, ℕ, List, Option, get_or, replicate, refl, None, ap}
+use Rattle.cm_run.specs.Gates.{CallerGates}
+use Rattle.cm_run.proofs.GateArrays.{none_counted}
+use Rattle.cm_run.proofs.kill_gates.KillGates.new.Goals as goal
+
+pub returns : goal.returns
+returns c = none_counted
