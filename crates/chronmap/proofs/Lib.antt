@@ -1,5 +1,6 @@
-pub mod Answering
-pub mod Explaining
-pub mod Histories
+pub mod AskedWords
+pub mod EmptyRuns
 pub mod KnownBytes
+pub mod LowCounts
+pub mod ReadNumbers
 pub mod StatusCauses

@@ -1,6 +1,7 @@
--- What the exit code of a call says of the words, the input and the output (own).
+-- What the exit code of a call says of the words, the gates, the input and the output (own).
 use Rattle.std.specs.Prelude.{◌≡◌, ◌⊎◌, ℕ, List}
 use Rattle.std.specs.Io.KnownBytes.{Appends}
+use Rattle.cm_run.specs.Gates.{MakerSeen}
 use Rattle.chronmap.specs.declared.status.Status.{Status}
 use Rattle.chronmap.specs.declared.status.Status.TheVariants as status
 use Rattle.chronmap.specs.Inputs.{IsReportText}
@@ -15,20 +16,20 @@ WritesReport status.WriteFault old new text = CountsFault old new × AppendsPref
 WritesReport _ old new text = ⊥
 
 -- a report that explains the run of the input's script was written, as far as this status says
-pub record GivesReport (status : Status) (words : List (List ℕ)) (source later_source sink later_sink : StreamView) : Type 0 where
+pub record GivesReport (status : Status) (words : List (List ℕ)) (gates later_gates : MakerSeen) (source later_source sink later_sink : StreamView) : Type 0 where
   pub text : List ℕ
-  pub is_report : IsReportText words source later_source text
+  pub is_report : IsReportText words gates later_gates source later_source text
   pub writes : WritesReport status sink later_sink text
 
 -- the cause of a status: it comes with a report, or with a refusal
-abbrev pub HasStatus : Status → List (List ℕ) → StreamView → StreamView → StreamView → StreamView → Type 0
-HasStatus status words source later_source sink later_sink =
-    GivesReport status words source later_source sink later_sink ⊎ Refuses status words source later_source sink later_sink
+abbrev pub HasStatus : Status → List (List ℕ) → MakerSeen → MakerSeen → StreamView → StreamView → StreamView → StreamView → Type 0
+HasStatus status words gates later_gates source later_source sink later_sink =
+    GivesReport status words gates later_gates source later_source sink later_sink ⊎ Refuses status words source later_source sink later_sink
 
--- The call did what this exit code says: for 0 each segment's printed answers are one legal history of a bounded map, each call once and
--- in its caller's order, and the printed map is what the history leads to; each other code but 1 comes only for its cause, and 1 only after words that
--- run a script.
-pub record HasExitCode (code : ℕ) (words : List (List ℕ)) (source later_source sink later_sink : StreamView) : Type 0 where
+-- The call did what this exit code says: for 0 each segment's printed answers are one legal history of a bounded map, each call once and in
+-- its caller's order, and the printed map is what the history leads to; each other code but 1 comes only for its cause, and 1 only after words that
+-- give a geometry.
+pub record HasExitCode (code : ℕ) (words : List (List ℕ)) (gates later_gates : MakerSeen) (source later_source sink later_sink : StreamView) : Type 0 where
   pub status : Status
   pub code_is : code ≡ code_of status
-  pub cause : HasStatus status words source later_source sink later_sink
+  pub cause : HasStatus status words gates later_gates source later_source sink later_sink

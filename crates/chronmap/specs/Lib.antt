@@ -1,9 +1,10 @@
 pub mod Streams
 pub mod ReadStops
 pub mod CommandLine
+pub mod NumberTexts
+pub mod GateCounts
 pub mod Statuses
 pub mod Inputs
 pub mod Refusals
 pub mod ExitCodes
 pub mod MemoryStreams
-pub mod RunRecords

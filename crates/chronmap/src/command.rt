@@ -1,42 +1,65 @@
 //! The words that the program takes.
 
-ghost use Rattle.std.specs.Prelude.{◌≡◌, ◌≢◌, ◌↔◌, IsTrue, IfOk, MatchOption, codes, drop, map, string_bytes};
-ghost use Rattle.chronmap.specs.CommandLine.{command_words, GivesGeometry};
+ghost use Rattle.std.specs.Prelude.{◌≡◌, ◌∷◌, [], IfOk, MatchOption, MatchResult, drop, map, string_bytes};
+ghost use Rattle.chronmap.specs.CommandLine.{AsksFor, AsksForNone, GivesGeometry};
+ghost use Rattle.chronmap.specs.Refusals.{RefusesWords};
 
+use crate::numbers::{Numbers, numbers_of};
+use crate::stop::Stop;
 use crate::word::Word;
 use cm_geo::Geo;
 use cm_plain::NoMemory;
 use std::alloc::Global;
 
-// Whether these three words run a script.
-fn are_run_words(command: &str, option: &str, value: &str) -> bool
-    ensures { IsTrue result ↔ ((command.now ≡ codes "run") × (option.now ≡ codes "--geo") × (value.now ≡ codes "1,1,64,4,0")) }
+// The numbers of a geometry that a command alone asks for.
+fn numbers_of_one(command: &str) -> Option<Numbers>
+    ensures { MatchOption result (AsksForNone (command.now ∷ [])) (AsksFor (command.now ∷ [])) }
 {
-    command == "run" && option == "--geo" && value == "1,1,64,4,0"
+    if command == "run" {
+        Some(Numbers::default())
+    } else {
+        None
+    }
 }
 
-// Whether the words are the three that run a script, and no more.
-fn is_run(words: &[Word]) -> bool
-    ensures { IsTrue result ↔ (words.now ≡ command_words) }
+// The numbers of a geometry that a command with one option and its value asks for.
+fn numbers_of_three(command: &str, option: &str, value: &str) -> Option<Numbers>
+    ensures { MatchOption result (AsksForNone (command.now ∷ option.now ∷ value.now ∷ [])) (AsksFor (command.now ∷ option.now ∷ value.now ∷ [])) }
+{
+    if command == "run" && option == "--geo" {
+        numbers_of(value)
+    } else {
+        None
+    }
+}
+
+// The numbers of a geometry that the words ask for.
+fn numbers_asked(words: &[Word]) -> Option<Numbers>
+    ensures { MatchOption result (AsksForNone words.now) (AsksFor words.now) }
 {
     match words {
-        [command, option, value] => are_run_words(
+        [command] => numbers_of_one(command.as_str()),
+        [command, option, value] => numbers_of_three(
             command.as_str(),
             option.as_str(),
             value.as_str(),
         ),
-        _ => false,
+        _ => None,
     }
 }
 
-/// The geometry of the words that run a script, and none for all other words.
-pub fn geometry_of(words: &[Word]) -> Option<Geo>
-    ensures { MatchOption result (words.now ≢ command_words) (GivesGeometry words.now) }
+/// The geometry that the words ask for: `Usage` where they ask for no numbers, and `Geometry` where these
+/// are none.
+pub fn geometry_of(words: &[Word]) -> Result<Geo, Stop>
+    ensures { MatchResult result (GivesGeometry words.now) (RefusesWords words.now) }
 {
-    if !is_run(words) {
-        return None;
+    let Some(n) = numbers_asked(words) else {
+        return Err(Stop::Usage);
+    };
+    match Geo::new(n.segments, n.tiers, n.chunks, n.chunk_words, n.extra) {
+        Ok(geo) => Ok(geo),
+        Err(refused) => Err(Stop::Geometry(refused)),
     }
-    Geo::new(1, 1, 64, 4, 0).ok()
 }
 
 /// The words behind the program's name, which stands first. Takes memory.

@@ -1,21 +1,30 @@
-//! Runs scripts of callers over one map, and prints their answers and the final map.
+//! Runs scripts of callers over one map, on threads, and prints their answers and the final map.
 #![tactic(auto)]
 
 mod adapters;
 mod command;
 mod memory;
+mod numbers;
 mod refuse;
-mod run;
 mod serve;
 mod sink;
 mod source;
 mod status;
 mod stop;
 #[cfg(test)]
-mod tests;
+mod tests_callers;
+#[cfg(test)]
+mod tests_calls;
+#[cfg(test)]
+mod tests_runs;
+#[cfg(test)]
+mod tests_streams;
+#[cfg(test)]
+mod tests_words;
 mod word;
 
 pub use adapters::{StdSink, StdSource};
+use cm_run::KillGates;
 use command::words_of;
 pub use memory::{SliceSource, VecSink};
 use refuse::refuse;
@@ -46,8 +55,16 @@ fn main(rt: HostRuntime) -> ExitCode {
     let alloc = rt.alloc();
     let mut source = StdSource::new(rt.stdin());
     let mut sink = StdSink::new(rt.stdout());
+    let mut gates = KillGates::new();
     let status = match command_words(alloc, env::args(&rt)) {
-        Ok(words) => run_words(alloc, words.as_slice(), &mut source, &mut sink),
+        Ok(words) => run_words(
+            &rt,
+            alloc,
+            words.as_slice(),
+            &mut source,
+            &mut sink,
+            &mut gates,
+        ),
         Err(stop) => refuse(&mut sink, stop).code(),
     };
     ExitCode::from(status)

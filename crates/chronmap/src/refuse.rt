@@ -2,13 +2,14 @@
 
 ghost use Rattle.std.specs.Prelude.{◌≡◌, ◌≤◌, ◌++◌, codes, length};
 ghost use Rattle.chronmap.specs.Refusals.{refusal_text, status_of};
-ghost use Rattle.chronmap.specs.Statuses.{cause_word};
+ghost use Rattle.chronmap.specs.Statuses.{cause_word, limit_word};
 ghost use Rattle.chronmap.specs.Streams.{AppendsUnlessFault};
 
 use crate::sink::{Sink, write_text};
 use crate::status::Status;
 use crate::stop::Stop;
 use arrayvec::ArrayString;
+use cm_geo::GeoRefused;
 use cm_script::LineCause;
 use itoa::Buffer;
 
@@ -26,7 +27,21 @@ fn cause_end(cause: LineCause) -> &'static str
         LineCause::Op => ",op\n",
         LineCause::Argument => ",argument\n",
         LineCause::TooLarge => ",too-large\n",
-        LineCause::NotYet => ",not-yet\n",
+    }
+}
+
+// What stands behind "refused,geometry,".
+fn limit_end(refused: GeoRefused) -> &'static str
+    ensures text { result.now ≡ limit_word refused ++ codes "\n" }
+    ensures length_limit { length result.now ≤ 15 }
+{
+    match refused {
+        GeoRefused::Segments => "segments\n",
+        GeoRefused::Tiers => "tiers\n",
+        GeoRefused::Chunks => "chunks\n",
+        GeoRefused::ChunkWords => "chunk-words\n",
+        GeoRefused::Allowance => "allowance\n",
+        GeoRefused::TooManyWords => "too-many-words\n",
     }
 }
 
@@ -38,6 +53,10 @@ fn refusal_line(stop: Stop) -> ArrayString<LONGEST_LINE>
     match stop {
         Stop::NoMemory => text.push_str("refused,memory\n"),
         Stop::Usage => text.push_str("refused,usage\n"),
+        Stop::Geometry(refused) => {
+            text.push_str("refused,geometry,");
+            text.push_str(limit_end(refused));
+        }
         Stop::TooLong => text.push_str("refused,script,0,too-long\n"),
         Stop::Refused { line, cause } => {
             let mut digits = Buffer::new();

@@ -20,6 +20,8 @@ pub enum Status {
     ReadFault,
     /// The sink failed.
     WriteFault,
+    /// The numbers that the words ask for are no geometry.
+    Geometry,
 }
 
 impl Status {
@@ -34,6 +36,7 @@ impl Status {
             Status::Script => 3,
             Status::ReadFault => 4,
             Status::WriteFault => 5,
+            Status::Geometry => 8,
         }
     }
 }
@@ -48,6 +51,7 @@ impl From<Stop> for Status {
         match stop {
             Stop::NoMemory => Status::NoMemory,
             Stop::Usage => Status::Usage,
+            Stop::Geometry(_) => Status::Geometry,
             Stop::TooLong | Stop::Refused { .. } => Status::Script,
             Stop::ReadFault => Status::ReadFault,
         }

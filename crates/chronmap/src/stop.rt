@@ -1,6 +1,7 @@
 //! Why a call of the program ends with a refusal.
 
 use crate::source::ReadStop;
+use cm_geo::GeoRefused;
 use cm_plain::NoMemory;
 use cm_script::{LineCause, ScriptStop};
 use std::alloc::AllocError;
@@ -12,6 +13,8 @@ pub enum Stop {
     NoMemory,
     /// The words are none that the program takes.
     Usage,
+    /// The numbers that the words ask for are no geometry, for this reason.
+    Geometry(GeoRefused),
     /// The input has too many bytes or records.
     TooLong,
     /// The first refused record of the input, counted from 1, and its cause.

@@ -1,9 +1,10 @@
 -- Counts of callers in arrays.
-use Rattle.std.proofs.Common.{◌≡◌, ℕ, List, Option, Some, None, [], ◌∷◌, get_or, replicate, refl, zero, suc}
+use Rattle.std.proofs.Common.{◌≡◌, ℕ, Option, None, [], get_or, replicate, refl, zero, suc}
 use Rattle.cm_run.specs.declared.kill.Kill.{Kill}
 use Rattle.cm_run.specs.GateCounts.{counts_in}
 
-each_same : (X : Type 0) (count i : ℕ) (x : X) → get_or (replicate count x) i x ≡ x
+-- an array of one value has it at each place
+pub each_same : (X : Type 0) (count i : ℕ) (x : X) → get_or (replicate count x) i x ≡ x
 each_same X zero i x = refl
 each_same X (suc count) zero x = refl
 each_same X (suc count) (suc i) x = each_same X count i x

@@ -1,5 +1,5 @@
 -- What the makers of this crate tell (own).
-use Rattle.std.specs.Prelude.{ℕ, ◌≡◌, Bool, true, false, List, [], get_or, Option, None, is_some}
+use Rattle.std.specs.Prelude.{ℕ, ◌≡◌, true, false, List, [], get_or, Option, None, is_some}
 use Rattle.cm_run.specs.declared.kill.Kill.{Kill}
 use Rattle.cm_run.specs.declared.kill_gates.KillGates.{KillGates}
 use Rattle.cm_run.specs.declared.turn_gates.TurnGates.{TurnGates}

@@ -1,9 +1,10 @@
-//! The gates of a run: the fuses that its callers ask before each event, made for each caller and counted when they come back.
+//! The run of a script: callers side by side over one shared store, each with a gate that may end it.
 #![tactic(auto)]
 
 mod gates;
 mod kill;
 mod kill_gates;
+mod run;
 #[cfg(test)]
 mod tests_gates;
 mod turn_gates;
@@ -11,4 +12,5 @@ mod turn_gates;
 pub use gates::GateMaker;
 pub use kill::{Kill, KillKind};
 pub use kill_gates::KillGates;
+pub use run::{Outcome, run_script};
 pub use turn_gates::{TurnGate, TurnGates};

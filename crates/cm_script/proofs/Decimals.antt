@@ -8,7 +8,7 @@ use Rattle.std.proofs.lemmas.Bool.{cases_Bool}
 use Rattle.std.proofs.lemmas.Fmt.{IsAscii-decimal, decimal_injective, parse-decimal}
 use Rattle.std.proofs.lemmas.Slice.Eq.{bytes_eq-Decides}
 use Rattle.std.proofs.lemmas.Str.{IsUtf8-from_ascii}
-use Rattle.cm_script.specs.Numbers.{number_below}
+use Rattle.cm_script.specs.Numbers.{IsNoNumber, IsNumberOf, number_below}
 
 -- the first number from here on whose text this is
 first_of_text : ℕ → ℕ → List ℕ → Option ℕ
@@ -47,22 +47,31 @@ no-number : (limit : ℕ) (text : List ℕ) → ((number : ℕ) → number < lim
 unfolding number_below first_of_text
 no-number limit text none = nothing limit 0 text (λ number less. none number (omega arith))
 
--- bytes that are no UTF-8 are no number
-pub not-text : (limit : ℕ) (text : List ℕ) → limit ≤ 2 ^ 32 → ¬ (IsUtf8 text) → number_below limit text ≡ None
-not-text limit text fits bad =
-    no-number limit text (λ number less same. bad (subst IsUtf8 (sym same) (IsUtf8-from_ascii (decimal number) (IsAscii-decimal number (omega arith)))))
+-- the text of no number is of none below the limit
+pub no-number-below : (limit : ℕ) (text : List ℕ) → limit ≤ 2 ^ 32 → IsNoNumber text → number_below limit text ≡ None
+no-number-below limit text fits none = no-number limit text (λ number less same. none number (omega arith, same))
 
--- what `parse` refuses is no number
-pub not-parsed : {E : Type 0} → (limit : ℕ) (text : List ℕ) (why : E) → limit ≤ 2 ^ 32 → ParsesUnsigned 32 10 text (Err why) → number_below limit text ≡ None
-not-parsed limit text why fits parsed =
-    no-number limit text (λ number less same. let read : Err why ≡ Ok number = parse-decimal 32 number text (Err why) (omega arith) (omega arith) same parsed in cc read)
+-- nor is that of a number at the limit or above it
+pub number-beyond : (limit number : ℕ) (text : List ℕ) → limit ≤ 2 ^ 32 → IsNumberOf text number → limit ≤ number → number_below limit text ≡ None
+number-beyond limit number text fits is beyond =
+    no-number limit text (λ other less same.
+    let numbers : number ≡ other = decimal_injective number other (omega (arith, is.0)) (omega arith) (sym is.1 ∙ same) in
+    omega (arith, numbers, beyond, less))
 
--- what `parse` reads is the number, or it is none
-pub not-number : (limit number : ℕ) (text : List ℕ) → limit ≤ 2 ^ 32 → ParsesUnsigned {E = ℕ} 32 10 text (Ok number)
-    → (number < limit → decimal number ≡ text → ⊥) → number_below limit text ≡ None
-not-number limit number text fits parsed other =
-    no-number limit text (λ read less same.
+-- bytes that are no UTF-8 are the text of no number
+pub not-text : (text : List ℕ) → ¬ (IsUtf8 text) → IsNoNumber text
+not-text text bad = λ number is. bad (subst IsUtf8 (sym is.1) (IsUtf8-from_ascii (decimal number) (IsAscii-decimal number (omega (arith, is.0)))))
+
+-- nor is what `parse` refuses
+pub not-parsed : {E : Type 0} → (text : List ℕ) (why : E) → ParsesUnsigned 32 10 text (Err why) → IsNoNumber text
+not-parsed text why parsed = λ number is.
+    let read : Err why ≡ Ok number = parse-decimal 32 number text (Err why) is.0 (omega (arith, is.0)) is.1 parsed in
+    cc read
+
+-- what `parse` reads is the number, or there is none
+pub not-number : (number : ℕ) (text : List ℕ) → ParsesUnsigned {E = ℕ} 32 10 text (Ok number) → (decimal number ≡ text → ⊥) → IsNoNumber text
+not-number number text parsed other = λ read is.
     let parse : Result ℕ ℕ = Ok number in
-    let results : parse ≡ Ok read = parse-decimal 32 read text (Ok number) (omega arith) (omega arith) same parsed in
+    let results : parse ≡ Ok read = parse-decimal 32 read text (Ok number) is.0 (omega (arith, is.0)) is.1 parsed in
     let numbers : number ≡ read = cc results in
-    other (omega arith) (ap decimal numbers ∙ sym same))
+    other (ap decimal numbers ∙ sym is.1)

@@ -20,7 +20,7 @@ use Rattle.cm_script.specs.declared.stop.LineCause.TheVariants as cause
 use Rattle.cm_script.specs.declared.verb.Verb.{Verb}
 use Rattle.cm_script.specs.declared.verb.Verb.TheVariants as verb
 use Rattle.cm_script.specs.Numbers.{number_below}
-use Rattle.cm_script.specs.Scripts.{IsFor, IsLineFor, Refusal, built_line, op_on_segment, is_built, is_empty, is_large, is_long_key, is_long_value, op_on_key, line_by, line_of, line_then, line_with, lines_from, lists_with, op_of, unless, verb_of, op_with_value}
+use Rattle.cm_script.specs.Scripts.{IsFor, IsLineFor, Refusal, op_on_segment, is_empty, is_large, is_long_key, is_long_value, op_on_key, line_by, line_of, line_then, line_with, lines_from, lists_with, op_of, unless, verb_of, op_with_value}
 
 -- what passes a test that would refuse it
 record Passes (test : Bool) (asked : Op) (result : Result Op LineCause) : Type 0 where
@@ -190,16 +190,9 @@ line_accepted geo lists (caller ∷ word ∷ argument ∷ arguments) line e = el
   | inr within_limit ↦ by_caller geo lists caller (number_below MAX_CALLERS caller) (verb_of word) (argument ∷ arguments) line refl (rw within_limit at e)
 ]
 
--- a line that is built is one that was accepted
-built_kept : (geo : Geo) (result : Result Line LineCause) (line : Line) → ((got : Line) → result ≡ Ok got → IsAccepted geo got) → built_line result ≡ Ok line → IsLineFor geo line
-built_kept geo (Err why) line accepted e = cc e
-built_kept geo (Ok got) line accepted e = elim (cases_Bool (is_built got)) [
-  | inl is ↦
-      let same : got ≡ line = ok_same (rw is at e) in
-      let it = accepted got refl in
-      subst (IsLineFor geo) same (record { is_built_line = is; caller = it.caller; limits = it.limits })
-  | inr is_not ↦ let h = rw is_not at e in cc h
-]
+-- a line that was accepted is one for the geometry
+line_kept : (geo : Geo) (line : Line) → IsAccepted geo line → IsLineFor geo line
+line_kept geo line it = record { caller = it.caller; limits = it.limits }
 
 -- a line and those behind it
 then_kept : (geo : Geo) (number : ℕ) (result : Result Line LineCause) (later : Result (List Line) Refusal) (lines : List Line)
@@ -216,6 +209,6 @@ pub lines_kept : (geo : Geo) (number lists : ℕ) (rows : List (List (List ℕ))
 lines_kept geo number lists [] lines e =
     let same : [] ≡ lines = ok_same e in subst (IsFor geo) same (All-nil (IsLineFor geo))
 lines_kept geo number lists (row ∷ rows) lines e =
-    let result = built_line (line_of geo lists row) in
+    let result = line_of geo lists row in
     then_kept geo number result (lines_from geo (number + 1) (lists_with lists result) rows) lines
-    (λ got is. built_kept geo (line_of geo lists row) got (line_accepted geo lists row) is) (lines_kept geo (number + 1) (lists_with lists result) rows) e
+    (λ got is. line_kept geo got (line_accepted geo lists row got is)) (lines_kept geo (number + 1) (lists_with lists result) rows) e

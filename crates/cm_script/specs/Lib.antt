@@ -2,4 +2,10 @@ pub mod Numbers
 pub mod Rows
 pub mod Scripts
 pub mod Reports
-pub mod Explained
+pub mod DroppedRows
+pub mod Answers
+pub mod Ends
+pub mod Locks
+pub mod Found
+pub mod Left
+pub mod Accounted

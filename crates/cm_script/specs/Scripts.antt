@@ -98,19 +98,6 @@ line_of geo lists (caller ∷ word ∷ argument ∷ arguments) =
     else line_with geo lists (number_below MAX_CALLERS caller) (verb_of word) (argument ∷ arguments)
 line_of geo lists _ = Err cause.Csv
 
--- what isn't built yet: callers other than 0, and operations other than put and get
-abbrev pub is_built_op : Op → Bool
-is_built_op (op.Put key value) = true
-is_built_op (op.Get key) = true
-is_built_op _ = false
-
-abbrev pub is_built : Line → Bool
-is_built line = line.caller == 0 && is_built_op line.op
-
-abbrev pub built_line : Result Line LineCause → Result Line LineCause
-built_line (Ok line) = if is_built line then Ok line else Err cause.NotYet
-built_line (Err why) = Err why
-
 abbrev pub is_list : Op → Bool
 is_list (op.List segment) = true
 is_list _ = false
@@ -138,7 +125,7 @@ line_then number (Err why) later = Err (refused number why)
 abbrev pub lines_from : Geo → ℕ → ℕ → List (List (List ℕ)) → Result (List Line) Refusal
 lines_from geo number lists [] = Ok []
 lines_from geo number lists (row ∷ rows) =
-    let line = built_line (line_of geo lists row) in
+    let line = line_of geo lists row in
     line_then number line (lines_from geo (number + 1) (lists_with lists line) rows)
 
 -- the script of a text: its length and its number of records are tested before any record
@@ -153,9 +140,8 @@ StopsScript geo bytes stop.TooLong = script_of geo bytes ≡ Err too_long
 StopsScript geo bytes (stop.Refused line why) = script_of geo bytes ≡ Err (refused line why)
 StopsScript geo bytes stop.NoMemory = Unit {0}
 
--- a line that was read for a geometry: its operation is built, its caller is one, and it keeps the limits
+-- a line that was read for a geometry: its caller is one, and it keeps the limits
 pub record IsLineFor (geo : Geo) (line : Line) : Type 0 where
-  pub is_built_line : is_built line ≡ true
   pub caller : line.caller < MAX_CALLERS
   pub limits : KeepsLimits geo line.op
 

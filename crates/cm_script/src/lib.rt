@@ -14,8 +14,9 @@ mod verb;
 
 pub use limits::{MAX_CALLERS, MAX_SCRIPT_BYTES, MAX_SCRIPT_LINES, MAX_SCRIPT_LISTS};
 pub use line::{Line, Script};
+pub use number::number_of;
 pub use read::read_script;
-pub use report::Report;
+pub use report::{CallerEnd, How, Report};
 pub use stop::{LineCause, ScriptStop};
 pub use text::render;
 pub use verb::Verb;

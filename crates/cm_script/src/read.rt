@@ -2,7 +2,7 @@
 
 ghost use Rattle.std.specs.Prelude.{◌≡◌, ◌≢◌, ◌≤◌, ℕ, length, map, vec_len, IfErr, IfOk};
 ghost use Rattle.csv.specs.Records.{fields_of};
-ghost use Rattle.cm_script.specs.Scripts.{built_line, is_built, line_of, lines_from, lists_with, refused, script_of, StopsScript, IsFor};
+ghost use Rattle.cm_script.specs.Scripts.{line_of, lines_from, lists_with, refused, script_of, StopsScript, IsFor};
 ghost use Rattle.cm_script.specs.declared.stop.LineCause.{LineCause};
 
 use crate::arguments::{LineStop, op_of};
@@ -64,25 +64,6 @@ fn line_of(alloc: Global, geo: &Geo, lists: u32, row: &ByteRecord) -> Result<Lin
     Ok(Line { caller, op })
 }
 
-// Whether what a line asks for is built.
-fn is_built(line: &Line) -> bool
-    ensures { result ≡ is_built line.now }
-{
-    line.caller == 0 && matches!(line.op, Op::Put { .. } | Op::Get { .. })
-}
-
-// The same of a record that asks for what is built.
-fn built_line_of(alloc: Global, geo: &Geo, lists: u32, row: &ByteRecord) -> Result<Line, LineStop>
-    ensures ok { IfOk result (λ line. built_line (line_of geo.now lists (fields_of row.now)) ≡ Ok line) }
-    ensures err { IfErr result (λ stop. (cause : LineCause) → stop ≡ LineStop.Refused cause → built_line (line_of geo.now lists (fields_of row.now)) ≡ Err cause) }
-{
-    let line = line_of(alloc, geo, lists, row)?;
-    if !is_built(&line) {
-        return Err(LineStop::Refused(LineCause::NotYet));
-    }
-    Ok(line)
-}
-
 // How many `list` records there are after one more record.
 fn lists_with(lists: u32, line: &Line) -> u32
     requires { lists ≤ MAX_SCRIPT_LINES }
@@ -106,7 +87,7 @@ fn lines_of(alloc: Global, geo: &Geo, rows: &[ByteRecord]) -> Result<Vec<Line>, 
     let mut number = 1;
     let mut lists = 0;
     for row in rows {
-        let line = match built_line_of(alloc, geo, lists, row) {
+        let line = match line_of(alloc, geo, lists, row) {
             Ok(line) => line,
             Err(LineStop::Refused(cause)) => {
                 return Err(ScriptStop::Refused {

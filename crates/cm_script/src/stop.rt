@@ -14,8 +14,6 @@ pub enum LineCause {
     /// A key, a prefix, a value or an entry is too large, or there are more `list` records than a
     /// script may have.
     TooLarge = 5,
-    /// The operation isn't built yet, or the caller isn't 0.
-    NotYet = 7,
 }
 
 /// Why there is no script.

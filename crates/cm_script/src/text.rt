@@ -4,11 +4,12 @@ ghost use Rattle.std.specs.Prelude.{◌≡◌, ◌++◌, ◌∷◌, [], ℕ, Lis
 ghost use Rattle.std.specs.Io.KnownBytes.{Appends};
 ghost use Rattle.csv.specs.Records.{fields_of, partial_of};
 ghost use Rattle.csv.specs.Writing.{default_writer, fields_written, has_written, row_text, text_written, with_flexible, writer_setup};
-ghost use Rattle.cm_script.specs.Reports.{answer_fields, call_fields, end_fields, map_fields, pair_fields, text_of};
+ghost use Rattle.cm_script.specs.DroppedRows.{rows_of_drop};
+ghost use Rattle.cm_script.specs.Reports.{answer_fields, call_fields, caller_end_fields, dropped_fields, dropped_row, dropped_rows, drops_by_cause, end_fields, found_fields, found_rows, map_fields, pair_fields, text_of};
 ghost use Rattle.cm_script.specs.Rows.{text_of_rows};
 
-use crate::report::Report;
-use cm_plain::{MapLine, NoMemory, Pair, Receipt, Reply};
+use crate::report::{CallerEnd, How, Report};
+use cm_plain::{MapLine, NoMemory, Pair, Receipt, Reply, SegFound};
 use csv::{ByteRecord, Writer, WriterBuilder};
 use itoa::Buffer;
 use std::alloc::Global;
@@ -121,6 +122,85 @@ impl Record for MapLine {
     }
 }
 
+impl Record for CallerEnd {
+    ghost fields = { caller_end_fields };
+
+    fn fill(&self, row: &mut ByteRecord) -> Result<(), NoMemory> {
+        row.clear();
+        match self.how {
+            How::Stopped => push(row, b"stopped")?,
+            How::Dead => push(row, b"dead")?,
+        }
+        push_number(row, u64::from(self.caller))?;
+        push_number(row, u64::from(self.line))
+    }
+}
+
+impl Record for SegFound {
+    ghost fields = { found_fields };
+
+    fn fill(&self, row: &mut ByteRecord) -> Result<(), NoMemory> {
+        row.clear();
+        push(row, b"found")?;
+        push_number(row, u64::from(self.segment))?;
+        push_number(row, u64::from(self.kept))?;
+        push_number(row, self.lock % (1 << 30))?;
+        push_number(row, self.lock / (1 << 30) % 2)?;
+        push_number(row, self.lock / (1 << 31) % 2)?;
+        push_number(row, u64::from(self.in_flight))?;
+        push_number(row, u64::from(self.cut))
+    }
+}
+
+// How many slots of a segment were dropped for a cause.
+#[derive(Clone, Copy)]
+struct Dropped {
+    segment: u32,
+    cause: &'static [u8],
+    count: u32,
+}
+
+impl Record for Dropped {
+    ghost fields = { λ it. dropped_fields it.segment (it.cause.now, it.count) };
+
+    fn fill(&self, row: &mut ByteRecord) -> Result<(), NoMemory> {
+        row.clear();
+        push(row, b"dropped")?;
+        push_number(row, u64::from(self.segment))?;
+        push(row, self.cause)?;
+        push_number(row, u64::from(self.count))
+    }
+}
+
+// What was dropped in a segment for a cause.
+fn drop_for(seen: &SegFound, cause: &'static [u8], count: u32) -> Dropped
+    ensures { rows_of_drop result ≡ dropped_row seen.now.segment (cause.now, count) }
+{
+    Dropped {
+        segment: seen.segment,
+        cause,
+        count,
+    }
+}
+
+// What was dropped in a segment for each cause.
+fn drops_of(seen: &SegFound) -> [Dropped; 9]
+    ensures { flat_map rows_of_drop result ≡ dropped_rows seen.now.segment (drops_by_cause seen.now.drops) }
+{
+    let drops = &seen.drops;
+    [
+        drop_for(seen, b"range", drops.range),
+        drop_for(seen, b"lengths", drops.lengths),
+        drop_for(seen, b"checksum", drops.checksum),
+        drop_for(seen, b"padding", drops.padding),
+        drop_for(seen, b"segment", drops.segment),
+        drop_for(seen, b"fingerprint", drops.fingerprint),
+        drop_for(seen, b"duplicate", drops.duplicate),
+        drop_for(seen, b"overlap", drops.overlap),
+        drop_for(seen, b"allowance", drops.allowance),
+    ]
+}
+
 // The record that ends a report.
 impl Record for Report {
     ghost fields = { end_fields };
@@ -171,6 +251,65 @@ fn write_all<T: Record>(
     Ok(())
 }
 
+// Writes a record for a cause, where slots were dropped for it.
+fn write_drop(
+    writer: &mut Writer<Vec<u8>>,
+    row: &mut ByteRecord,
+    dropped: &Dropped,
+) -> Result<(), NoMemory>
+    requires setup { writer_setup writer.old ≡ with_flexible default_writer true }
+    requires between { (fields_written writer.old ≡ 0) × (has_written writer.old ≡ false) }
+    ensures setup { OnOk result (writer_setup writer.new ≡ with_flexible default_writer true) }
+    ensures between { OnOk result ((fields_written writer.new ≡ 0) × (has_written writer.new ≡ false)) }
+    ensures text { OnOk result (Appends (text_written (λ v. Some v.items) writer.old) (text_written (λ v. Some v.items) writer.new)
+        (text_of_rows (rows_of_drop dropped.now))) }
+{
+    if dropped.count == 0 {
+        return Ok(());
+    }
+    write_one(writer, row, dropped)
+}
+
+// Writes a record for each cause for which slots of a segment were dropped.
+fn write_drops(
+    writer: &mut Writer<Vec<u8>>,
+    row: &mut ByteRecord,
+    seen: &SegFound,
+) -> Result<(), NoMemory>
+    requires setup { writer_setup writer.old ≡ with_flexible default_writer true }
+    requires between { (fields_written writer.old ≡ 0) × (has_written writer.old ≡ false) }
+    ensures setup { OnOk result (writer_setup writer.new ≡ with_flexible default_writer true) }
+    ensures between { OnOk result ((fields_written writer.new ≡ 0) × (has_written writer.new ≡ false)) }
+    ensures text { OnOk result (Appends (text_written (λ v. Some v.items) writer.old) (text_written (λ v. Some v.items) writer.new)
+        (text_of_rows (dropped_rows seen.now.segment (drops_by_cause seen.now.drops)))) }
+{
+    let drops = drops_of(seen);
+    for dropped in &drops {
+        write_drop(writer, row, dropped)?;
+    }
+    Ok(())
+}
+
+// Writes what was found in each segment, with what was dropped there behind it.
+fn write_found(
+    writer: &mut Writer<Vec<u8>>,
+    row: &mut ByteRecord,
+    found: &[SegFound],
+) -> Result<(), NoMemory>
+    requires setup { writer_setup writer.old ≡ with_flexible default_writer true }
+    requires between { (fields_written writer.old ≡ 0) × (has_written writer.old ≡ false) }
+    ensures setup { OnOk result (writer_setup writer.new ≡ with_flexible default_writer true) }
+    ensures between { OnOk result ((fields_written writer.new ≡ 0) × (has_written writer.new ≡ false)) }
+    ensures text { OnOk result (Appends (text_written (λ v. Some v.items) writer.old) (text_written (λ v. Some v.items) writer.new)
+        (text_of_rows (flat_map found_rows found.now))) }
+{
+    for seen in found {
+        write_one(writer, row, seen)?;
+        write_drops(writer, row, seen)?;
+    }
+    Ok(())
+}
+
 /// The text of a report: CSV records, each ended by a line feed. Takes memory.
 pub fn render(alloc: Global, report: &Report) -> Result<Vec<u8>, NoMemory>
     ensures { IfOk result (λ text. text.items ≡ text_of report.now) }
@@ -180,6 +319,8 @@ pub fn render(alloc: Global, report: &Report) -> Result<Vec<u8>, NoMemory>
         .from_writer(Vec::new(alloc));
     let mut row = ByteRecord::new(alloc);
     write_all(&mut writer, &mut row, report.receipts.as_slice())?;
+    write_all(&mut writer, &mut row, report.ends.as_slice())?;
+    write_found(&mut writer, &mut row, report.found.as_slice())?;
     write_all(&mut writer, &mut row, report.map.as_slice())?;
     write_one(&mut writer, &mut row, report)?;
     writer.into_inner().map_err(|_| NoMemory)

@@ -62,9 +62,6 @@ fn refuses_the_first_bad_line(rt: HostRuntime) -> Result<(), Fail> {
         (long_value.as_slice(), 1, LineCause::TooLarge),
         (b"0,count,1", 1, LineCause::Argument),
         (b"0,count,00", 1, LineCause::Argument),
-        (b"1,get,a", 1, LineCause::NotYet),
-        (b"0,remove,a", 1, LineCause::NotYet),
-        (b"0,sweep,0,p", 1, LineCause::NotYet),
         (b"0,get,a\n64,get,a\n0,get", 2, LineCause::Caller),
     ];
     for (text, line, cause) in cases {

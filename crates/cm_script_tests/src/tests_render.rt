@@ -1,7 +1,7 @@
 //! Reports with the text that the format gives them.
 
-use cm_plain::{Bytes, ListOf, MapLine, NoMemory, Pair, PairList, Receipt, Reply};
-use cm_script::{Report, render};
+use cm_plain::{Bytes, Drops, ListOf, MapLine, NoMemory, Pair, PairList, Receipt, Reply, SegFound};
+use cm_script::{CallerEnd, How, Report, render};
 use std::alloc::Global;
 use std::test::Fail;
 
@@ -40,6 +40,8 @@ fn whole_reports(rt: HostRuntime) -> Result<(), Fail> {
     let receipts = vec![in alloc; receipt(1, Reply::New), receipt(2, Reply::Value(one))]?;
     let report = Report {
         receipts: ListOf::from_vec(receipts),
+        ends: ListOf::from_vec(Vec::new(alloc)),
+        found: ListOf::from_vec(Vec::new(alloc)),
         map: ListOf::from_vec(vec![in alloc; map_line(alloc, b"a", b"1")?]?),
         extra: 0,
     };
@@ -47,6 +49,8 @@ fn whole_reports(rt: HostRuntime) -> Result<(), Fail> {
     assert_eq!(rt; render(alloc, &report)?.as_slice(), text.as_slice());
     let empty = Report {
         receipts: ListOf::from_vec(Vec::new(alloc)),
+        ends: ListOf::from_vec(Vec::new(alloc)),
+        found: ListOf::from_vec(Vec::new(alloc)),
         map: ListOf::from_vec(Vec::new(alloc)),
         extra: 0,
     };
@@ -61,6 +65,8 @@ fn whole_reports(rt: HostRuntime) -> Result<(), Fail> {
 fn shows(alloc: Global, reply: Reply, fields: &[u8]) -> Result<bool, NoMemory> {
     let report = Report {
         receipts: ListOf::from_vec(vec![in alloc; receipt(1, reply)]?),
+        ends: ListOf::from_vec(Vec::new(alloc)),
+        found: ListOf::from_vec(Vec::new(alloc)),
         map: ListOf::from_vec(Vec::new(alloc)),
         extra: 0,
     };
@@ -116,6 +122,8 @@ fn quotes(rt: HostRuntime) -> Result<(), Fail> {
     ] {
         let report = Report {
             receipts: ListOf::from_vec(Vec::new(alloc)),
+            ends: ListOf::from_vec(Vec::new(alloc)),
+            found: ListOf::from_vec(Vec::new(alloc)),
             map: ListOf::from_vec(vec![in alloc; map_line(alloc, key, value)?]?),
             extra: 0,
         };
@@ -123,5 +131,56 @@ fn quotes(rt: HostRuntime) -> Result<(), Fail> {
         text.extend_from_slice(b"end,0,1,0\n")?;
         assert_eq!(rt; render(alloc, &report)?.as_slice(), text.as_slice());
     }
+    Ok(())
+}
+
+/// Nothing was dropped.
+const NO_DROPS: Drops = Drops {
+    range: 0,
+    lengths: 0,
+    checksum: 0,
+    padding: 0,
+    segment: 0,
+    fingerprint: 0,
+    duplicate: 0,
+    overlap: 0,
+    allowance: 0,
+};
+
+#[test]
+fn ends_and_what_was_found(rt: HostRuntime) -> Result<(), Fail> {
+    let alloc = rt.alloc();
+    let end = |caller, line, how| CallerEnd { caller, line, how };
+    let torn = SegFound {
+        segment: 0,
+        kept: 2,
+        drops: Drops {
+            checksum: 1,
+            duplicate: 3,
+            allowance: 2,
+            ..NO_DROPS
+        },
+        lock: 1 << 31,
+        in_flight: true,
+        cut: false,
+    };
+    let held = SegFound {
+        segment: 1,
+        kept: 0,
+        drops: NO_DROPS,
+        lock: (1 << 30) + 5,
+        in_flight: false,
+        cut: true,
+    };
+    let report = Report {
+        receipts: ListOf::from_vec(Vec::new(alloc)),
+        ends: ListOf::from_vec(vec![in alloc; end(0, 4, How::Dead), end(63, 65536, How::Stopped)]?),
+        found: ListOf::from_vec(vec![in alloc; torn, held]?),
+        map: ListOf::from_vec(Vec::new(alloc)),
+        extra: 7,
+    };
+    let text =
+        b"dead,0,4\nstopped,63,65536\nfound,0,2,0,0,1,1,0\ndropped,0,checksum,1\ndropped,0,duplicate,3\ndropped,0,allowance,2\nfound,1,0,5,1,0,0,1\nend,0,0,7\n";
+    assert_eq!(rt; render(alloc, &report)?.as_slice(), text.as_slice());
     Ok(())
 }

@@ -1,5 +1,3 @@
-use Rattle.std.proofs.Common.{◌≡◌, ℕ, List, Option, get_or, replicate, refl, None, ap}
-use Rattle.cm_run.specs.Gates.{CallerGates}
 use Rattle.cm_run.proofs.GateArrays.{none_counted}
 use Rattle.cm_run.proofs.kill_gates.KillGates.new.Goals as goal
 
