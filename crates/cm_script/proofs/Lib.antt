@@ -2,7 +2,7 @@
 pub mod Decimals
 pub mod AllRecords
 pub mod Exits
-pub mod Lines
 pub mod MappedErrors
+pub mod MatchedResults
 pub mod RowTexts
 pub mod LineLimits

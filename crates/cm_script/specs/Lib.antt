@@ -1,6 +1,7 @@
 pub mod Numbers
 pub mod Rows
 pub mod Scripts
+pub mod Unread
 pub mod Reports
 pub mod DroppedRows
 pub mod Answers

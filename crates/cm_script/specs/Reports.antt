@@ -83,6 +83,10 @@ found_rows seen = found_fields seen ∷ dropped_rows seen.segment (drops_by_caus
 abbrev pub map_fields : MapLine → List (List ℕ)
 map_fields line = codes "map" ∷ decimal line.segment ∷ line.key ∷ line.value ∷ []
 
+-- the text of the pairs of a map
+abbrev pub map_text : List MapLine → List ℕ
+map_text lines = text_of_rows (map map_fields lines)
+
 -- the numbers of answers and of pairs, and the extra tiers
 abbrev pub end_fields : Report → List (List ℕ)
 end_fields report = codes "end" ∷ decimal (length report.receipts) ∷ decimal (length report.map) ∷ decimal report.extra ∷ []

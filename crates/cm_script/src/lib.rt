@@ -18,5 +18,5 @@ pub use number::number_of;
 pub use read::read_script;
 pub use report::{CallerEnd, How, Report};
 pub use stop::{LineCause, ScriptStop};
-pub use text::render;
+pub use text::{render, render_map};
 pub use verb::Verb;

@@ -5,7 +5,7 @@ ghost use Rattle.std.specs.Io.KnownBytes.{Appends};
 ghost use Rattle.csv.specs.Records.{fields_of, partial_of};
 ghost use Rattle.csv.specs.Writing.{default_writer, fields_written, has_written, row_text, text_written, with_flexible, writer_setup};
 ghost use Rattle.cm_script.specs.DroppedRows.{rows_of_drop};
-ghost use Rattle.cm_script.specs.Reports.{answer_fields, call_fields, caller_end_fields, dropped_fields, dropped_row, dropped_rows, drops_by_cause, end_fields, found_fields, found_rows, map_fields, pair_fields, text_of};
+ghost use Rattle.cm_script.specs.Reports.{answer_fields, call_fields, caller_end_fields, dropped_fields, dropped_row, dropped_rows, drops_by_cause, end_fields, found_fields, found_rows, map_fields, map_text, pair_fields, text_of};
 ghost use Rattle.cm_script.specs.Rows.{text_of_rows};
 
 use crate::report::{CallerEnd, How, Report};
@@ -323,5 +323,17 @@ pub fn render(alloc: Global, report: &Report) -> Result<Vec<u8>, NoMemory>
     write_found(&mut writer, &mut row, report.found.as_slice())?;
     write_all(&mut writer, &mut row, report.map.as_slice())?;
     write_one(&mut writer, &mut row, report)?;
+    writer.into_inner().map_err(|_| NoMemory)
+}
+
+/// The text of the pairs of a map, as a report has them: a record for each, ended by a line feed. Takes memory.
+pub fn render_map(alloc: Global, lines: &[MapLine]) -> Result<Vec<u8>, NoMemory>
+    ensures { IfOk result (λ text. text.items ≡ map_text lines.now) }
+{
+    let mut writer = WriterBuilder::new()
+        .flexible(true)
+        .from_writer(Vec::new(alloc));
+    let mut row = ByteRecord::new(alloc);
+    write_all(&mut writer, &mut row, lines)?;
     writer.into_inner().map_err(|_| NoMemory)
 }

@@ -1,7 +1,7 @@
 //! Reports with the text that the format gives them.
 
 use cm_plain::{Bytes, Drops, ListOf, MapLine, NoMemory, Pair, PairList, Receipt, Reply, SegFound};
-use cm_script::{CallerEnd, How, Report, render};
+use cm_script::{CallerEnd, How, Report, render, render_map};
 use std::alloc::Global;
 use std::test::Fail;
 
@@ -130,6 +130,7 @@ fn quotes(rt: HostRuntime) -> Result<(), Fail> {
         let mut text = Vec::from_slice(alloc, line)?;
         text.extend_from_slice(b"end,0,1,0\n")?;
         assert_eq!(rt; render(alloc, &report)?.as_slice(), text.as_slice());
+        assert_eq!(rt; render_map(alloc, report.map.as_slice())?.as_slice(), line);
     }
     Ok(())
 }
