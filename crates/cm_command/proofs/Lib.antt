@@ -1,0 +1,11 @@
+pub mod AllKills
+pub mod Decimals
+pub mod Fronts
+pub mod OneCommand
+pub mod OneWord
+pub mod Parts
+pub mod ReadKills
+pub mod ReadNumbers
+pub mod ReadRun
+pub mod Stands
+pub mod Walks
