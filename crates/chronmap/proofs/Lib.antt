@@ -1,6 +1,7 @@
-pub mod AskedWords
-pub mod EmptyRuns
+pub mod FileCauses
 pub mod KnownBytes
 pub mod LowCounts
-pub mod ReadNumbers
-pub mod StatusCauses
+pub mod RunCauses
+pub mod StatusSays
+pub mod StopCauses
+pub mod WordCauses

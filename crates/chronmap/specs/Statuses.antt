@@ -1,12 +1,18 @@
 -- The statuses that the program ends with, and their refusal texts (own).
 use Rattle.std.specs.Prelude.{ℕ, ◌++◌, List, codes, decimal}
+use Rattle.cm_check.specs.declared.law.Broken.{Broken}
+use Rattle.cm_check.specs.declared.law.Law.{Law}
+use Rattle.cm_check.specs.declared.law.Law.TheVariants as law
 use Rattle.cm_geo.specs.declared.refused.GeoRefused.{GeoRefused}
 use Rattle.cm_geo.specs.declared.refused.GeoRefused.TheVariants as limit
+use Rattle.cm_image.specs.declared.refused.ImageRefused.{ImageRefused}
+use Rattle.cm_image.specs.declared.refused.ImageRefused.TheVariants as image
 use Rattle.cm_script.specs.declared.stop.LineCause.{LineCause}
 use Rattle.cm_script.specs.declared.stop.LineCause.TheVariants as cause
-use Rattle.cm_script.specs.Scripts.{Refusal, too_long, refused}
 use Rattle.chronmap.specs.declared.status.Status.{Status}
 use Rattle.chronmap.specs.declared.status.Status.TheVariants as status
+use Rattle.chronmap.specs.declared.stop.Stop.{Stop}
+use Rattle.chronmap.specs.declared.stop.Stop.TheVariants as stop
 
 -- the number of a status
 abbrev pub code_of : Status → ℕ
@@ -16,7 +22,22 @@ code_of status.Usage = 2
 code_of status.Script = 3
 code_of status.ReadFault = 4
 code_of status.WriteFault = 5
+code_of status.VaultFault = 6
+code_of status.Image = 7
 code_of status.Geometry = 8
+
+-- the status of a refusal
+abbrev pub status_of : Stop → Status
+status_of stop.NoMemory = status.NoMemory
+status_of stop.Usage = status.Usage
+status_of (stop.Geometry why) = status.Geometry
+status_of stop.Missing = status.Image
+status_of (stop.NotImage why) = status.Image
+status_of (stop.Broken broken) = status.Image
+status_of stop.TooLong = status.Script
+status_of (stop.Refused line why) = status.Script
+status_of stop.ReadFault = status.ReadFault
+status_of stop.VaultFault = status.VaultFault
 
 -- the word of a record's cause
 abbrev pub cause_word : LineCause → List ℕ
@@ -35,19 +56,44 @@ limit_word limit.ChunkWords = codes "chunk-words"
 limit_word limit.Allowance = codes "allowance"
 limit_word limit.TooManyWords = codes "too-many-words"
 
--- the texts of the refusals, one line each
-abbrev pub memory_text : List ℕ
-memory_text = codes "refused,memory\n"
+-- the word of what is wrong with bytes that are no image
+abbrev pub image_word : ImageRefused → List ℕ
+image_word image.Short = codes "short"
+image_word image.Long = codes "long"
+image_word image.Magic = codes "magic"
+image_word image.Version = codes "version"
+image_word image.Geometry = codes "geometry"
 
-abbrev pub usage_text : List ℕ
-usage_text = codes "refused,usage\n"
+-- the word of a law
+abbrev pub law_word : Law → List ℕ
+law_word law.Lock = codes "lock"
+law_word law.Number = codes "number"
+law_word law.Header = codes "header"
+law_word law.Chain = codes "chain"
+law_word law.Reserved = codes "reserved"
+law_word law.Slot = codes "slot"
+law_word law.Gap = codes "gap"
+law_word law.Duplicate = codes "duplicate"
+law_word law.Overlap = codes "overlap"
+law_word law.Bits = codes "bits"
+law_word law.TierCount = codes "tier-count"
+law_word law.SegmentCount = codes "segment-count"
+law_word law.Unlinked = codes "unlinked"
+law_word law.Allowance = codes "allowance"
 
-abbrev pub geometry_text : GeoRefused → List ℕ
-geometry_text why = codes "refused,geometry," ++ limit_word why ++ codes "\n"
+-- the law, the segment and the word
+abbrev pub broken_text : Broken → List ℕ
+broken_text broken = law_word broken.law ++ codes "," ++ decimal broken.segment ++ codes "," ++ decimal broken.word
 
-abbrev pub read_text : List ℕ
-read_text = codes "refused,read\n"
-
-abbrev pub script_text : Refusal → List ℕ
-script_text too_long = codes "refused,script,0,too-long\n"
-script_text (refused line why) = codes "refused,script," ++ decimal line ++ codes "," ++ cause_word why ++ codes "\n"
+-- the text of a refusal, one line
+abbrev pub refusal_text : Stop → List ℕ
+refusal_text stop.NoMemory = codes "refused,memory\n"
+refusal_text stop.Usage = codes "refused,usage\n"
+refusal_text (stop.Geometry why) = codes "refused,geometry," ++ limit_word why ++ codes "\n"
+refusal_text stop.Missing = codes "refused,image,missing\n"
+refusal_text (stop.NotImage why) = codes "refused,image," ++ image_word why ++ codes "\n"
+refusal_text (stop.Broken broken) = codes "refused,image," ++ broken_text broken ++ codes "\n"
+refusal_text stop.TooLong = codes "refused,script,0,too-long\n"
+refusal_text (stop.Refused line why) = codes "refused,script," ++ decimal line ++ codes "," ++ cause_word why ++ codes "\n"
+refusal_text stop.ReadFault = codes "refused,read\n"
+refusal_text stop.VaultFault = codes "refused,vault\n"

@@ -2,10 +2,12 @@
 #![tactic(auto)]
 
 mod adapters;
-mod command;
+mod args;
+mod images;
 mod memory;
-mod numbers;
+mod offline;
 mod refuse;
+mod runs;
 mod serve;
 mod sink;
 mod source;
@@ -16,19 +18,22 @@ mod tests_callers;
 #[cfg(test)]
 mod tests_calls;
 #[cfg(test)]
+mod tests_files;
+#[cfg(test)]
 mod tests_runs;
 #[cfg(test)]
 mod tests_streams;
 #[cfg(test)]
 mod tests_words;
-mod word;
 
 pub use adapters::{StdSink, StdSource};
+use args::words_of;
+use cm_command::Word;
+use cm_image::DirVault;
 use cm_run::KillGates;
-use command::words_of;
 pub use memory::{SliceSource, VecSink};
 use refuse::refuse;
-pub use serve::run_words;
+pub use serve::{offline_words, run_words};
 pub use sink::{Sink, write_text};
 pub use source::{MOST_TAKEN, ReadStop, Source, read_input};
 pub use status::Status;
@@ -36,7 +41,6 @@ use std::alloc::Global;
 use std::process::ExitCode;
 use std::{env, io};
 use stop::Stop;
-pub use word::Word;
 
 // The words behind the program's name, of the arguments as they could be read. Arguments that are no
 // text are words that the program doesn't take.
@@ -55,6 +59,7 @@ fn main(rt: HostRuntime) -> ExitCode {
     let alloc = rt.alloc();
     let mut source = StdSource::new(rt.stdin());
     let mut sink = StdSink::new(rt.stdout());
+    let mut vault = DirVault::new(alloc, &rt);
     let mut gates = KillGates::new();
     let status = match command_words(alloc, env::args(&rt)) {
         Ok(words) => run_words(
@@ -63,6 +68,7 @@ fn main(rt: HostRuntime) -> ExitCode {
             words.as_slice(),
             &mut source,
             &mut sink,
+            &mut vault,
             &mut gates,
         ),
         Err(stop) => refuse(&mut sink, stop).code(),

@@ -20,6 +20,10 @@ pub enum Status {
     ReadFault,
     /// The sink failed.
     WriteFault,
+    /// The vault failed.
+    VaultFault,
+    /// A file is missing, no image, or one of a map that isn't lawful.
+    Image,
     /// The numbers that the words ask for are no geometry.
     Geometry,
 }
@@ -36,6 +40,8 @@ impl Status {
             Status::Script => 3,
             Status::ReadFault => 4,
             Status::WriteFault => 5,
+            Status::VaultFault => 6,
+            Status::Image => 7,
             Status::Geometry => 8,
         }
     }
@@ -43,7 +49,7 @@ impl Status {
 
 /// The status of a refusal.
 impl From<Stop> for Status {
-    ghost use Rattle.chronmap.specs.Refusals.{status_of};
+    ghost use Rattle.chronmap.specs.Statuses.{status_of};
 
     ghost from_gives = { λ stop status. status ≡ status_of stop };
 
@@ -54,6 +60,8 @@ impl From<Stop> for Status {
             Stop::Geometry(_) => Status::Geometry,
             Stop::TooLong | Stop::Refused { .. } => Status::Script,
             Stop::ReadFault => Status::ReadFault,
+            Stop::VaultFault => Status::VaultFault,
+            Stop::Missing | Stop::NotImage(_) | Stop::Broken(_) => Status::Image,
         }
     }
 }

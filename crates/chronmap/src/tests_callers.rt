@@ -3,6 +3,7 @@
 use crate::memory::{SliceSource, VecSink};
 use crate::serve::run_words;
 use crate::tests_calls::{ONE_TIER, call_on, run, words};
+use cm_image::MapVault;
 use cm_run::TurnGates;
 use std::alloc::Global;
 use std::str;
@@ -91,6 +92,7 @@ fn two_callers_run_beside_each_other(rt: HostRuntime) -> Result<(), Fail> {
     let words = words(alloc, &["run", "--geo", ONE_TIER])?;
     let mut source = SliceSource::new(script.as_bytes(), 5, Vec::new(alloc));
     let mut sink = VecSink::new(alloc, 7, Vec::new(alloc));
+    let mut vault = MapVault::new(alloc, Vec::new(alloc));
     let mut gates = TurnGates::new(alloc, 100_000_000)?;
     let status = run_words(
         &rt,
@@ -98,6 +100,7 @@ fn two_callers_run_beside_each_other(rt: HostRuntime) -> Result<(), Fail> {
         words.as_slice(),
         &mut source,
         &mut sink,
+        &mut vault,
         &mut gates,
     );
     assert_eq!(rt; status, 0);

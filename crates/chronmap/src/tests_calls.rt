@@ -4,7 +4,8 @@ use crate::memory::{SliceSource, VecSink};
 use crate::serve::run_words;
 use crate::sink::Sink;
 use crate::source::Source;
-use crate::word::Word;
+use cm_command::Word;
+use cm_image::MapVault;
 use cm_plain::NoMemory;
 use cm_run::KillGates;
 use std::alloc::Global;
@@ -32,9 +33,22 @@ pub fn call<T: Threads + Wait + Sync, R: Source, W: Sink>(
     source: &mut R,
     sink: &mut W,
 ) -> Result<u8, NoMemory> {
+    let mut vault = MapVault::new(alloc, Vec::new(alloc));
+    call_in(rt, alloc, texts, source, sink, &mut vault)
+}
+
+/// The status of a call with these words over these files.
+pub fn call_in<T: Threads + Wait + Sync, R: Source, W: Sink>(
+    rt: &T,
+    alloc: Global,
+    texts: &[&str],
+    source: &mut R,
+    sink: &mut W,
+    vault: &mut MapVault,
+) -> Result<u8, NoMemory> {
     let words = words(alloc, texts)?;
     let mut gates = KillGates::new();
-    Ok(run_words(rt, alloc, words.as_slice(), source, sink, &mut gates))
+    Ok(run_words(rt, alloc, words.as_slice(), source, sink, vault, &mut gates))
 }
 
 /// The status of a call over a script in memory, and the sink that its report or refusal was given to.

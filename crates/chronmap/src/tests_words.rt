@@ -2,18 +2,10 @@
 
 use crate::memory::{SliceSource, VecSink};
 use crate::tests_calls::{ONE_TIER, call, call_on, prints, run};
-use crate::word::Word;
 use std::test::Fail;
 
 // The words that run a script on one segment of one tier.
 const RUN: [&str; 3] = ["run", "--geo", ONE_TIER];
-
-#[test]
-fn words_are_texts(rt: HostRuntime) -> Result<(), Fail> {
-    let word = Word::of(rt.alloc(), ONE_TIER)?;
-    assert!(rt; word.as_str() == "1,1,64,4,0");
-    Ok(())
-}
 
 // The source fails at its first call, so it isn't called.
 #[test]
@@ -34,9 +26,9 @@ fn other_words_are_refused(rt: HostRuntime) -> Result<(), Fail> {
         &["run", "--geo", "1, 1,64,4,0"],
         &["run", "--geo", "1,1,64,4,4294967296"],
         &["run", "--geo", "1,1,64,4,0", "--"],
-        &["run", "--geo=1,1,64,4,0"],
-        &["run", "--image", "m"],
-        &["make", "1", "1"],
+        &["run", "--geo=1,1,64,4"],
+        &["run", "--geo", "1,1,64,4,0", "--image", "m"],
+        &["make", "1", "--seed"],
         &["run", "--help"],
     ];
     for texts in table {
@@ -117,20 +109,25 @@ fn too_many_records(rt: HostRuntime) -> Result<(), Fail> {
 #[test]
 fn a_source_that_fails(rt: HostRuntime) -> Result<(), Fail> {
     let alloc = rt.alloc();
-    let mut source = SliceSource::new(b"0,put,a,1\n", 3, vec![in alloc; 1]?);
-    let mut sink = VecSink::new(alloc, 7, Vec::new(alloc));
-    assert_eq!(rt; call(&rt, alloc, &RUN, &mut source, &mut sink)?, 4);
-    assert!(rt; sink.bytes() == b"refused,read\n".as_slice());
+    for failing in 0u32..3 {
+        let mut source = SliceSource::new(b"0,put,a,1\n", 3, vec![in alloc; failing]?);
+        let mut sink = VecSink::new(alloc, 7, Vec::new(alloc));
+        assert_eq!(rt; call(&rt, alloc, &RUN, &mut source, &mut sink)?, 4);
+        assert!(rt; sink.bytes() == b"refused,read\n".as_slice());
+    }
     Ok(())
 }
 
 #[test]
 fn a_sink_that_fails(rt: HostRuntime) -> Result<(), Fail> {
     let alloc = rt.alloc();
-    let mut source = SliceSource::new(b"0,put,a,1\n0,get,a\n", 3, Vec::new(alloc));
-    let mut sink = VecSink::new(alloc, 8, vec![in alloc; 1]?);
-    assert_eq!(rt; call(&rt, alloc, &RUN, &mut source, &mut sink)?, 5);
-    assert!(rt; sink.bytes() == b"call,0,1".as_slice());
+    let table: [(u32, &[u8]); 2] = [(0, b""), (1, b"call,0,1")];
+    for (failing, text) in table {
+        let mut source = SliceSource::new(b"0,put,a,1\n0,get,a\n", 3, Vec::new(alloc));
+        let mut sink = VecSink::new(alloc, 8, vec![in alloc; failing]?);
+        assert_eq!(rt; call(&rt, alloc, &RUN, &mut source, &mut sink)?, 5);
+        assert!(rt; sink.bytes() == text);
+    }
     Ok(())
 }
 

@@ -44,7 +44,7 @@ use Rattle.cm_script.specs.Locks.{flight_at, nothing}
 use Rattle.cm_script.specs.Scripts.{IsFor, IsLineFor}
 use Rattle.cm_caller.specs.Records.{HasFront}
 use Rattle.cm_run.specs.Callers.{MadeBelow, asks, made_for}
-use Rattle.cm_run.specs.declared.kill.Kill.{Kill}
+use Rattle.cm_command.specs.declared.kill.Kill.{Kill}
 use Rattle.cm_run.specs.Explained.{Explained, number_after}
 use Rattle.cm_run.specs.Gates.{CallerGates, MakerSeen}
 use Rattle.cm_run.specs.Gathered.{GathersBelow, receipts_by}

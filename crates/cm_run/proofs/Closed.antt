@@ -24,7 +24,7 @@ use Rattle.cm_script.specs.declared.report.CallerEnd.{CallerEnd}
 use Rattle.cm_script.specs.declared.report.Report.{Report}
 use Rattle.cm_script.specs.Answers.{calls_in}
 use Rattle.cm_script.specs.Scripts.{IsFor}
-use Rattle.cm_run.specs.declared.kill.Kill.{Kill}
+use Rattle.cm_command.specs.declared.kill.Kill.{Kill}
 use Rattle.cm_run.specs.declared.run.Gathered.{Gathered}
 use Rattle.cm_run.specs.Callers.{MadeBelow}
 use Rattle.cm_run.specs.Explained.{Explained}

@@ -1,6 +1,6 @@
 -- Counts of callers in arrays.
 use Rattle.std.proofs.Common.{◌≡◌, ℕ, Option, None, [], get_or, replicate, refl, zero, suc}
-use Rattle.cm_run.specs.declared.kill.Kill.{Kill}
+use Rattle.cm_command.specs.declared.kill.Kill.{Kill}
 use Rattle.cm_run.specs.GateCounts.{counts_in}
 
 -- an array of one value has it at each place

@@ -5,7 +5,7 @@ use Rattle.cm_plain.specs.States.{State}
 use Rattle.cm_plain.specs.FoundChains.{KeepsAllowance}
 use Rattle.cm_plain.specs.Lawful.{Lawful}
 use Rattle.cm_script.specs.declared.line.Line.{Line}
-use Rattle.cm_run.specs.declared.kill.Kill.{Kill}
+use Rattle.cm_command.specs.declared.kill.Kill.{Kill}
 use Rattle.cm_script.specs.declared.report.CallerEnd.{CallerEnd}
 use Rattle.cm_script.specs.declared.report.Report.{Report}
 use Rattle.cm_script.specs.Ends.{dead_ends}

@@ -1,6 +1,6 @@
 -- What the makers of this crate tell (own).
 use Rattle.std.specs.Prelude.{ℕ, ◌≡◌, true, false, List, [], get_or, Option, None, is_some}
-use Rattle.cm_run.specs.declared.kill.Kill.{Kill}
+use Rattle.cm_command.specs.declared.kill.Kill.{Kill}
 use Rattle.cm_run.specs.declared.kill_gates.KillGates.{KillGates}
 use Rattle.cm_run.specs.declared.turn_gates.TurnGates.{TurnGates}
 use Rattle.cm_run.specs.Gates.{CallerGates, MakerSeen}

@@ -1,9 +1,9 @@
 -- What a maker of gates tells, and what its two calls do (own). A gate is the fuse of one caller of a run.
 use Rattle.std.specs.Prelude.{ℕ, ◌≡◌, ◌≢◌, ◌+◌, Bool, true, IsTrue, Option, Some, None, zero, suc}
 use Rattle.cm_words.specs.Fuses.{Budget, FuseSeen, events, stores}
-use Rattle.cm_run.specs.declared.kill.Kill.{Kill}
-use Rattle.cm_run.specs.declared.kill.KillKind.{KillKind}
-use Rattle.cm_run.specs.declared.kill.KillKind.TheVariants as kind
+use Rattle.cm_command.specs.declared.kill.Kill.{Kill}
+use Rattle.cm_command.specs.declared.kill.KillKind.{KillKind}
+use Rattle.cm_command.specs.declared.kill.KillKind.TheVariants as kind
 
 -- of one caller: how many gates were made, the kill of the last one, and how many came back dead
 pub record CallerGates : Type 0 where

@@ -5,9 +5,9 @@ use Rattle.cm_plain.specs.declared.receipt.Receipt.{Receipt}
 use Rattle.cm_plain.specs.Limits.{segment_of}
 use Rattle.cm_plain.specs.Steps.{is_change}
 use Rattle.cm_script.specs.declared.line.Line.{Line}
-use Rattle.cm_run.specs.declared.kill.Kill.{Kill}
-use Rattle.cm_run.specs.declared.kill.KillKind.{KillKind}
-use Rattle.cm_run.specs.declared.kill.KillKind.TheVariants as kind
+use Rattle.cm_command.specs.declared.kill.Kill.{Kill}
+use Rattle.cm_command.specs.declared.kill.KillKind.{KillKind}
+use Rattle.cm_command.specs.declared.kill.KillKind.TheVariants as kind
 use Rattle.cm_script.specs.declared.report.CallerEnd.{CallerEnd}
 use Rattle.cm_script.specs.declared.report.Report.{Report}
 use Rattle.cm_run.specs.Gates.{MakerSeen}

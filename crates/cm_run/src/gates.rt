@@ -3,7 +3,7 @@
 ghost use Rattle.std.specs.Prelude.{◌-◌, ◌<◌, ◌^◌};
 ghost use Rattle.cm_run.specs.Gates.{CountsDeath, MakerSeen, MakesGate};
 
-use crate::kill::Kill;
+use cm_command::Kill;
 use cm_words::Fuse;
 
 /// A maker of gates, which are the fuses of a run's callers.

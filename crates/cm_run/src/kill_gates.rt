@@ -5,7 +5,7 @@ ghost use Rattle.cm_words.specs.KillFuses.{kill_seen};
 ghost use Rattle.cm_run.specs.Gates.{budget_of};
 
 use crate::gates::GateMaker;
-use crate::kill::{Kill, KillKind};
+use cm_command::{Kill, KillKind};
 use cm_words::KillFuse;
 
 /// Makes the gates of kills: each dies in place of the store, or of the event, that its kill names, and one without a

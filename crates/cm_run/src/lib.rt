@@ -2,15 +2,14 @@
 #![tactic(auto)]
 
 mod gates;
-mod kill;
 mod kill_gates;
 mod run;
 #[cfg(test)]
 mod tests_gates;
 mod turn_gates;
 
+pub use cm_command::{Kill, KillKind};
 pub use gates::GateMaker;
-pub use kill::{Kill, KillKind};
 pub use kill_gates::KillGates;
-pub use run::{Outcome, run_script};
+pub use run::{Outcome, extra_tiers, run_script};
 pub use turn_gates::{TurnGate, TurnGates};

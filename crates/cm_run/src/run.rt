@@ -14,9 +14,9 @@ ghost use Rattle.cm_run.specs.Gathered.{Gathers, ReportsRun, with_end};
 ghost use Rattle.cm_run.specs.RunGates.{CanCountDeaths, IsCountable, SameGates};
 
 use crate::gates::GateMaker;
-use crate::kill::Kill;
 use cm_caller::{Caller, Halt};
 use cm_check::contents;
+use cm_command::Kill;
 use cm_plain::{ListOf, NoMemory, Receipt};
 use cm_script::{CallerEnd, Report, Script};
 use cm_store::{Pass, Store};
@@ -210,8 +210,8 @@ fn extra_in(words: &Words, segment: u32) -> u32
     }
 }
 
-/// How many tiers a map has beyond one per segment.
-fn extra_of(words: &Words) -> u32
+/// How many tiers a map has beyond one per segment, where they keep the allowance. Takes no memory.
+pub fn extra_tiers(words: &Words) -> u32
     requires { sum (linked_of words.now) ≤ words.now.geo.extra }
     ensures { result ≡ sum (linked_of words.now) }
 {
@@ -228,7 +228,7 @@ fn report_of(alloc: Global, words: &Words, all: Gathered) -> Result<Report, NoMe
     ensures { IfOk result (ReportsRun words.now all) }
 {
     let map = contents(alloc, words)?;
-    let extra = extra_of(words);
+    let extra = extra_tiers(words);
     let Gathered { receipts, ends, .. } = all;
     Ok(Report {
         receipts: ListOf::from_vec(receipts),

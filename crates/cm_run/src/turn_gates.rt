@@ -1,7 +1,7 @@
 //! Gates that show whether two callers run beside each other: for tests.
 
 use crate::gates::GateMaker;
-use crate::kill::Kill;
+use cm_command::Kill;
 use cm_plain::NoMemory;
 use cm_words::{Admit, EventKind, Fuse};
 use crossbeam_utils::atomic::AtomicCell;
